@@ -1,0 +1,136 @@
+-- What calls give one after the other: the digest of all bytes so far, from the start and from any possible running digest.
+-- Assumes nothing.
+use Prim.Native.Nat.{ℕ, _+_, _-_, _%_, _<_, _≤_}
+use mathlib.Core.Path.{_≡_, refl, sym, ap, ap₂, _∙_}
+use mathlib.Core.Bool.{Bool, true, false, _&&_}
+use mathlib.Core.List.{List, [], _∷_, _++_, flatten}
+use native.Mathlib.Nat.{add-zero, zero-add}
+use native.Mathlib.Omega.{arith}
+use borrow.Author.Tests.{leb-true, leb-false, le-leb}
+use lib.Dec.{leb}
+use lib.ListN.{length, replicate, length-append, length-replicate}
+use lib.Seq.{paste-zero}
+use Rattle.answer.specs.If.{if_then_else_}
+use Rattle.answer.specs.Answer.{accepted, refused}
+use Rattle.digest.specs.Message.{Algorithm, rest, digestOf}
+use Rattle.digest.specs.Running.{waitingBytes, allZero, possible, limit, accepts, padded, start, fed, finished, feeding, finishing, hashing}
+use Rattle.digest.specs.Theorems.{afterCalls, Calls, CallsFrom}
+use Rattle.digest.specs.Ready.{Ready}
+use Rattle.digest.specs.declared.running.Running.{Running}
+use Rattle.digest.specs.declared.running.Fed.{Fed}
+use Rattle.digest.specs.declared.running.Finished.{Finished}
+use Rattle.digest.specs.declared.message.Hashed.{Hashed}
+use Rattle.digest.proofs.Chain.{length-rest}
+use Rattle.digest.proofs.Steps.{ready, accepts-within, fed-few}
+use Rattle.digest.proofs.Zeros.{and-left}
+use Rattle.digest.proofs.Feeding.{two-feedings, digest-so-far, accepts-fed}
+use Rattle.digest.proofs.Answers.{feeding-accepted, feeding-refused, finishing-accepted}
+
+-- ---- the test, fewer bytes and from the start
+accepts-fewer : (s : Running) (n k : ℕ) → k ≤ n → accepts s n ≡ true → accepts s k ≡ true
+unfolding accepts
+accepts-fewer s n k h e =
+    let r = ready s n e in
+    sym (accepts-within s k true (omega arith) (sym (and-left (possible s) (leb (s .total + n) limit) e)))
+
+accepts-start : (a : Algorithm) (n : ℕ) → accepts (start a) n ≡ leb n limit
+unfolding accepts possible start allZero
+accepts-start a n = ap (λ (k : ℕ). leb k limit) (zero-add n)
+
+-- ---- a row of calls
+waiting-64 : (a : Algorithm) (s : Running) (m : List ℕ) → length (fed a s m .waiting) ≡ 64
+unfolding fed
+waiting-64 a s m = simp (length-append, length-replicate, length-rest) (omega arith)
+
+-- no bytes fed: nothing changes
+fed-nothing : (a : Algorithm) (s : Running) → length (s .waiting) ≡ 64 → accepts s 0 ≡ true → s ≡ fed a s []
+fed-nothing a s l e =
+    let r = ready s 0 e in
+    let few = fed-few a s [] l (s .waiting) r (omega (arith, r .counted)) (paste-zero (s .waiting) (s .count) []) in
+    let c : s .count ≡ s .count + 0 = omega arith in
+    let t : s .total ≡ s .total + 0 = omega arith in
+    (λ i. record { words = s .words; waiting = s .waiting; count = c i; total = t i }) ∙ few
+
+calls-are : (a : Algorithm) (s : Running) (parts : List (List ℕ)) → length (s .waiting) ≡ 64 → accepts s (length (flatten parts)) ≡ true
+    → afterCalls a s parts ≡ fed a s (flatten parts)
+unfolding afterCalls flatten
+calls-are a s [] l e = fed-nothing a s l e
+calls-are a s (m ∷ parts) l e =
+    let all = m ++ flatten parts in
+    let n : length all ≡ length m + length (flatten parts) = length-append m (flatten parts) in
+    let r = ready s (length all) e in
+    let first : feeding a s m .running ≡ fed a s m = ap (λ (f : Fed). f .running) (feeding-accepted a s m (accepts-fewer s (length all) (length m) (omega arith) e)) in
+    ap (λ (t : Running). afterCalls a t parts) first
+    ∙ calls-are a (fed a s m) parts (waiting-64 a s m) (accepts-fed a s m (length (flatten parts)) l (r .counted) (omega (arith, r .within)))
+    ∙ two-feedings a s m (flatten parts)
+
+-- finishing after a feeding that the running digest takes
+finishing-fed : (a : Algorithm) (s : Running) (m : List ℕ) → length (s .waiting) ≡ 64 → accepts s (length m) ≡ true
+    → finishing a (fed a s m) ≡ record { answer = accepted 0; digest = finished a (fed a s m); running = fed a s m }
+finishing-fed a s m l e =
+    let r = ready s (length m) e in
+    finishing-accepted a (fed a s m) (accepts-fed a s m 0 l (r .counted) (omega (arith, r .within)))
+
+pub calls-from : (a : Algorithm) (s : Running) (parts : List (List ℕ)) → length (s .waiting) ≡ 64 → accepts s (length (flatten parts)) ≡ true → CallsFrom a s parts
+calls-from a s parts l e =
+    let state = calls-are a s parts l e in
+    let done = ap (finishing a) state ∙ finishing-fed a s (flatten parts) l e in
+    record { state = state; finish-answer = ap (λ (f : Finished). f .answer) done; finish-digest = ap (λ (f : Finished). f .digest) done }
+
+pub calls : (a : Algorithm) (parts : List (List ℕ)) → Calls a parts
+unfolding start
+calls a parts =
+    let takes : (n : ℕ) → n ≤ limit → accepts (start a) n ≡ true = λ n h. accepts-start a n ∙ le-leb n limit h in
+    let from : length (flatten parts) ≤ limit → CallsFrom a (start a) parts = λ h. calls-from a (start a) parts refl (takes (length (flatten parts)) h) in
+    record {
+      fed-answer = λ m h.
+          let n : length (flatten parts ++ m) ≡ length (flatten parts) + length m = length-append (flatten parts) m in
+          let s : afterCalls a (start a) parts ≡ fed a (start a) (flatten parts) = from (omega arith) .state in
+          let t : accepts (fed a (start a) (flatten parts)) (length m) ≡ true = accepts-fed a (start a) (flatten parts) (length m) refl refl (omega arith) in
+          ap (λ (r : Running). feeding a r m .answer) s ∙ ap (λ (f : Fed). f .answer) (feeding-accepted a (fed a (start a) (flatten parts)) m t);
+      finish-answer = λ h. from h .finish-answer;
+      finish-digest = λ h. from h .finish-digest ∙ digest-so-far a (flatten parts);
+    }
+
+-- ---- a whole message, fed at once
+module _ (a : Algorithm) (m : List ℕ) where
+  hashing-accepted : leb (length m) limit ≡ true → hashing a m ≡ record { answer = accepted 0; digest = digestOf a m }
+  unfolding hashing if_then_else_
+  hashing-accepted e = rw e refl
+
+  hashing-refused : leb (length m) limit ≡ false → hashing a m ≡ record { answer = refused 25 0; digest = replicate (a .size) 0 }
+  unfolding hashing if_then_else_
+  hashing-refused e = rw e refl
+
+  fed-accepted : leb (length m) limit ≡ true → feeding a (start a) m ≡ record { answer = accepted 0; running = fed a (start a) m }
+  fed-accepted e = feeding-accepted a (start a) m (accepts-start a (length m) ∙ e)
+
+  fed-refused : leb (length m) limit ≡ false → feeding a (start a) m ≡ record { answer = refused 25 0; running = start a }
+  fed-refused e = feeding-refused a (start a) m (accepts-start a (length m) ∙ e)
+
+  -- the feeding is refused
+  refused-by : (b : Bool) → leb (length m) limit ≡ b → (f : Fed) → f ≡ feeding a (start a) m → (f .answer .number ≡ 0 → ⊥)
+      → _≡_ {A = Hashed} (record { answer = f .answer; digest = replicate (a .size) 0 }) (hashing a m)
+  refused-by true e f p n = absurd (n (ap (λ (x : Fed). x .answer .number) (p ∙ fed-accepted e)))
+  refused-by false e f p n = cc (fed-refused e, hashing-refused e)
+
+  -- the feeding is accepted, and finished
+  accepted-by : (b : Bool) → leb (length m) limit ≡ b → (f : Fed) (g : Finished) → f ≡ feeding a (start a) m → f .answer .number ≡ 0 → g ≡ finishing a (f .running)
+      → _≡_ {A = Hashed} (record { answer = f .answer; digest = g .digest }) (hashing a m)
+  unfolding start
+  accepted-by true e f g p n q =
+      let s : f .running ≡ fed a (start a) m = ap (λ (x : Fed). x .running) (p ∙ fed-accepted e) in
+      let d : g .digest ≡ digestOf a m =
+      ap (λ (x : Finished). x .digest) (q ∙ ap (finishing a) s ∙ finishing-fed a (start a) m refl (accepts-start a (length m) ∙ e)) ∙ digest-so-far a m in
+      cc (fed-accepted e, hashing-accepted e)
+  accepted-by false e f g p n q =
+      let z : 25 ≡ f .answer .number = sym (ap (λ (x : Fed). x .answer .number) (p ∙ fed-refused e)) in
+      absurd (omega arith)
+
+  pub whole-refused : (f : Fed) → f ≡ feeding a (start a) m → (f .answer .number ≡ 0 → ⊥)
+      → _≡_ {A = Hashed} (record { answer = f .answer; digest = replicate (a .size) 0 }) (hashing a m)
+  whole-refused = refused-by (leb (length m) limit) refl
+
+  pub whole-accepted : (f : Fed) (g : Finished) → f ≡ feeding a (start a) m → f .answer .number ≡ 0 → g ≡ finishing a (f .running)
+      → _≡_ {A = Hashed} (record { answer = f .answer; digest = g .digest }) (hashing a m)
+  whole-accepted = accepted-by (leb (length m) limit) refl

@@ -1,0 +1,9 @@
+pub mod Tables
+pub mod Rounds
+pub mod Constants
+pub mod Chain
+pub mod Zeros
+pub mod Steps
+pub mod Feeding
+pub mod Answers
+pub mod Calls

@@ -1,0 +1,42 @@
+use native.Mathlib.Omega.{arith}
+use Prim.Native.Nat.{_/_}
+use mathlib.Core.Path.{_≡_, refl}
+use Rattle.digest.specs.Lists.{tabulate}
+use Rattle.digest.specs.Padding.{byteOf, bytesOf}
+use Prim.Native.Nat.{ℕ, _+_, _-_, _*_, _<_, _≤_}
+use borrow.Author.Needs.{needs}
+use Rattle.digest.proofs.bytes.number_bytes.Statement.{statement}
+use Rattle.digest.proofs.bytes.number_bytes.Tie as tie
+
+cast-t4 : tie.Need-cast-t4
+cast-t4 c = search needs
+
+cast-t7 : tie.Need-cast-t7
+cast-t7 c = search needs
+
+cast-t10 : tie.Need-cast-t10
+cast-t10 c = search needs
+
+cast-t13 : tie.Need-cast-t13
+cast-t13 c = search needs
+
+cast-t16 : tie.Need-cast-t16
+cast-t16 c = search needs
+
+cast-t19 : tie.Need-cast-t19
+cast-t19 c = search needs
+
+cast-t22 : tie.Need-cast-t22
+cast-t22 c = search needs
+
+cast-t24 : tie.Need-cast-t24
+cast-t24 c = search needs
+
+returns : tie.Need-returns
+unfolding bytesOf byteOf tabulate
+returns c = let e : c .args .n / 1 ≡ c .args .n = omega arith in rw e refl
+
+pub number-bytes-spec : {M : Type 1} → statement M
+number-bytes-spec =
+    tie.close
+    (tie.spec cast-t4 cast-t7 cast-t10 cast-t13 cast-t16 cast-t19 cast-t22 cast-t24 returns)

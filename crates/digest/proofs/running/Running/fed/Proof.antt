@@ -1,0 +1,73 @@
+use native.Mathlib.Omega.{arith}
+use lib.ListN.{length-take}
+use Rattle.digest.specs.Message.{sha256}
+use Rattle.digest.proofs.Steps.{fed-few, fed-many, part-to-end}
+use Prim.Native.Nat.{ℕ, _+_, _-_, _*_, _<_, _≤_}
+use borrow.Author.Needs.{needs}
+use Rattle.digest.proofs.running.Running.fed.Statement.{statement}
+use Rattle.digest.proofs.running.Running.fed.Tie as tie
+
+add-total : tie.Need-add-total
+add-total c = search needs
+
+sub-room : tie.Need-sub-room
+sub-room c = search needs
+
+filled-requires : tie.Need-filled-requires
+filled-requires c κs = search needs
+
+add-held : tie.Need-add-held
+add-held c = search needs
+
+returns : tie.Need-returns
+returns c = fed-few sha256 _ _ (search needs) _ (c .before .before .before .before .before .before .pre) (omega arith) (c .filled .ensures)
+
+slice-aggregate-filled : tie.Need-slice-aggregate-filled
+slice-aggregate-filled c = simp length-take (omega arith)
+
+filled-requires-2 : tie.Need-filled-requires-2
+filled-requires-2 c κs = simp length-take (omega arith)
+
+slice-aggregate-compressed : tie.Need-slice-aggregate-compressed
+slice-aggregate-compressed c = search needs
+
+compressed-requires : tie.Need-compressed-requires
+compressed-requires c κs = search needs
+
+sub-after : tie.Need-sub-after
+sub-after c = search needs
+
+part-after-start : tie.Need-part-after-start
+part-after-start c = search needs
+
+part-after-end : tie.Need-part-after-end
+part-after-end c = search needs
+
+blocks-requires : tie.Need-blocks-requires
+blocks-requires c κs = search needs
+
+kept-requires : tie.Need-kept-requires
+kept-requires c κs = search needs
+
+returns-2 : tie.Need-returns-2
+returns-2 c = let start = c .before .before .before .before .before .before .before .before .before .before .before .before in let at-compressed = c .before .before .before in fed-many sha256 _ _ (search needs) _ _ _ _ _ (omega (arith, start .pre .counted)) (omega arith) (at-compressed .before .before .filled2 .ensures) (at-compressed .compressed .ensures) (part-to-end (start .args .s .now) (64 - start .args .self .count)) (c .before .blocks2 .ensures) (c .kept .ensures)
+
+pub fed-spec : {M : Type 1} → statement M
+fed-spec =
+    tie.close
+    (tie.spec
+    add-total
+    sub-room
+    filled-requires
+    add-held
+    returns
+    slice-aggregate-filled
+    filled-requires-2
+    slice-aggregate-compressed
+    compressed-requires
+    sub-after
+    part-after-start
+    part-after-end
+    blocks-requires
+    kept-requires
+    returns-2)

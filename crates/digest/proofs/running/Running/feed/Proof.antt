@@ -1,0 +1,31 @@
+use mathlib.Core.Path.{sym, _∙_}
+use Rattle.digest.specs.Message.{sha256}
+use Rattle.digest.proofs.Steps.{ready}
+use Rattle.digest.proofs.Answers.{feeding-accepted, feeding-refused}
+use Prim.Native.Nat.{ℕ, _+_, _-_, _*_, _<_, _≤_}
+use borrow.Author.Needs.{needs}
+use Rattle.digest.proofs.running.Running.feed.Statement.{statement}
+use Rattle.digest.proofs.running.Running.feed.Tie as tie
+
+accepts-requires : tie.Need-accepts-requires
+accepts-requires c κs = search needs
+
+fed-requires : tie.Need-fed-requires
+fed-requires c κs = ready _ _ (sym (c .before .accepts .ensures) ∙ c .if1 .taken)
+
+accepted-requires : tie.Need-accepted-requires
+accepted-requires c κs = search needs
+
+refused-requires : tie.Need-refused-requires
+refused-requires c κs = search needs
+
+returns : tie.Need-returns
+returns c = cc (feeding-accepted sha256 _ _ (sym (c .before .before .before .accepts .ensures) ∙ c .before .before .if1 .taken))
+
+returns-2 : tie.Need-returns-2
+returns-2 c = cc (feeding-refused sha256 _ _ (sym (c .before .before .accepts .ensures) ∙ c .before .if1 .left))
+
+pub feed-spec : {M : Type 1} → statement M
+feed-spec =
+    tie.close
+    (tie.spec accepts-requires fed-requires accepted-requires refused-requires returns returns-2)

@@ -1,0 +1,37 @@
+use mathlib.Core.Path.{sym, _∙_}
+use Rattle.digest.specs.Message.{sha256}
+use Rattle.digest.proofs.Steps.{ready}
+use Rattle.digest.proofs.Answers.{finishing-accepted, finishing-refused}
+use Prim.Native.Nat.{ℕ, _+_, _-_, _*_, _<_, _≤_}
+use borrow.Author.Needs.{needs}
+use Rattle.digest.proofs.running.Running.finish.Statement.{statement}
+use Rattle.digest.proofs.running.Running.finish.Tie as tie
+
+accepts-requires : tie.Need-accepts-requires
+accepts-requires c κs = search needs
+
+finished-requires : tie.Need-finished-requires
+finished-requires c κs = ready _ _ (sym (c .before .accepts .ensures) ∙ c .if1 .taken)
+
+accepted-requires : tie.Need-accepted-requires
+accepted-requires c κs = search needs
+
+refused-requires : tie.Need-refused-requires
+refused-requires c κs = search needs
+
+returns : tie.Need-returns
+returns c = cc (finishing-accepted sha256 _ (sym (c .before .before .before .accepts .ensures) ∙ c .before .before .if1 .taken))
+
+returns-2 : tie.Need-returns-2
+returns-2 c = cc (finishing-refused sha256 _ (sym (c .before .before .accepts .ensures) ∙ c .before .if1 .left))
+
+pub finish-spec : {M : Type 1} → statement M
+finish-spec =
+    tie.close
+    (tie.spec
+    accepts-requires
+    finished-requires
+    accepted-requires
+    refused-requires
+    returns
+    returns-2)

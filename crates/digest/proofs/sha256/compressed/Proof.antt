@@ -1,0 +1,25 @@
+use Rattle.digest.specs.Sha256.{compressed}
+use Prim.Native.Nat.{ℕ, _+_, _-_, _*_, _<_, _≤_}
+use borrow.Author.Needs.{needs}
+use Rattle.digest.proofs.sha256.compressed.Statement.{statement}
+use Rattle.digest.proofs.sha256.compressed.Tie as tie
+
+schedule-requires : tie.Need-schedule-requires
+schedule-requires c κs = search needs
+
+opened-requires : tie.Need-opened-requires
+opened-requires c κs = search needs
+
+rounds-requires : tie.Need-rounds-requires
+rounds-requires c κs = search needs
+
+added-requires : tie.Need-added-requires
+added-requires c κs = search needs
+
+returns : tie.Need-returns
+unfolding compressed
+returns c = cc
+
+pub compressed-spec : {M : Type 1} → statement M
+compressed-spec =
+    tie.close (tie.spec schedule-requires opened-requires rounds-requires added-requires returns)

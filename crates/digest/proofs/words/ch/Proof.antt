@@ -1,0 +1,13 @@
+use mathlib.Core.Path.{refl}
+use Rattle.digest.specs.Words as Words
+use borrow.Author.Needs.{needs}
+use Prim.Native.Nat.{ℕ, _+_, _-_, _*_, _<_, _≤_}
+use Rattle.digest.proofs.words.ch.Statement.{statement}
+use Rattle.digest.proofs.words.ch.Tie as tie
+
+returns : tie.Need-returns
+unfolding Words.ch
+returns c = refl
+
+pub ch-spec : {M : Type 1} → statement M
+ch-spec = tie.close (tie.spec returns)

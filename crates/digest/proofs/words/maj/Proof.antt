@@ -1,0 +1,13 @@
+use mathlib.Core.Path.{refl}
+use Rattle.digest.specs.Words as Words
+use borrow.Author.Needs.{needs}
+use Prim.Native.Nat.{ℕ, _+_, _-_, _*_, _<_, _≤_}
+use Rattle.digest.proofs.words.maj.Statement.{statement}
+use Rattle.digest.proofs.words.maj.Tie as tie
+
+returns : tie.Need-returns
+unfolding Words.maj
+returns c = refl
+
+pub maj-spec : {M : Type 1} → statement M
+maj-spec = tie.close (tie.spec returns)

@@ -1,0 +1,57 @@
+// Bytes copied, and numbers and words as bytes with the high byte first.
+ghost use mathlib.Core.Path.{_≡_};
+ghost use Prim.Native.Nat.{_+_, _/_, _%_, _<_, _≤_};
+ghost use lib.ListN.{length};
+ghost use lib.Seq.{paste};
+ghost use Rattle.digest.specs.Lists.{at};
+ghost use Rattle.digest.specs.Padding as Spec;
+
+// Copies `from` into `to` from an index on.
+pub(crate) fn put(to: &mut [u8], at: usize, from: &[u8])
+    requires { ⌜ at + length (now from) ≤ length (now to) ⌝ }
+    ensures { λ _. ⌜ now (to .exit) ≡ paste (now (to .entry)) at (now (from .entry)) (length (now (from .entry))) ⌝ }
+{
+    let mut i: usize = 0;
+    while i < from.len() {
+        to[at + i] = from[i];
+        i += 1;
+    }
+}
+
+// A number's eight bytes.
+pub(crate) fn number_bytes(n: u64) -> [u8; 8]
+    ensures { λ r. ⌜ r ≡ Spec.bytesOf Spec.bigEndian 8 n ⌝ }
+{
+    [
+        (n / 72057594037927936 % 256) as u8,
+        (n / 281474976710656 % 256) as u8,
+        (n / 1099511627776 % 256) as u8,
+        (n / 4294967296 % 256) as u8,
+        (n / 16777216 % 256) as u8,
+        (n / 65536 % 256) as u8,
+        (n / 256 % 256) as u8,
+        (n % 256) as u8,
+    ]
+}
+
+// Byte i of a word.
+fn word_byte(word: u32, i: usize) -> u8
+    requires { ⌜ i < 4 ⌝ }
+    ensures { λ r. ⌜ r ≡ Spec.byteOf Spec.bigEndian 4 word i ⌝ }
+{
+    let shift = 8 * (3 - i);
+    ((word >> shift) % 256) as u8
+}
+
+// The bytes of eight words.
+pub(crate) fn word_bytes(words: [u32; 8]) -> [u8; 32]
+    ensures { λ r. ⌜ r ≡ Spec.wordBytes Spec.bigEndian 32 words ⌝ }
+{
+    let mut bytes = [0u8; 32];
+    let mut i: usize = 0;
+    while i < 32 {
+        bytes[i] = word_byte(words[i / 4], i % 4);
+        i += 1;
+    }
+    bytes
+}

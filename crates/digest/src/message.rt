@@ -1,0 +1,30 @@
+// The digest of a whole message.
+use crate::running::Running;
+use answer::Answer;
+ghost use mathlib.Core.Path.{_≡_};
+ghost use Rattle.digest.specs.Message as Message;
+ghost use Rattle.digest.specs.Running as Spec;
+
+// The answer, and the digest of a whole message.
+pub struct Hashed {
+    pub answer: Answer,
+    pub digest: [u8; 32],
+}
+
+// The digest of a whole message. A refusal, 25, has 32 zero bytes.
+pub fn sha256(message: &[u8]) -> Hashed
+    ensures { λ r. ⌜ r ≡ Spec.hashing Message.sha256 (now (message .entry)) ⌝ }
+{
+    let fed = Running::start().feed(message);
+    let answer = fed.answer;
+    if answer.number != 0 {
+        return Hashed {
+            answer,
+            digest: [0u8; 32],
+        };
+    }
+    let whole = fed.running;
+    let done = whole.finish();
+    let digest = done.digest;
+    Hashed { answer, digest }
+}

@@ -1,0 +1,213 @@
+// The running digest, fed in parts and finished at any time.
+use crate::bytes;
+use crate::padding;
+use crate::sha256;
+use answer::Answer;
+ghost use mathlib.Core.Path.{_≡_};
+ghost use Prim.Native.Nat.{_+_, _≤_};
+ghost use lib.ListN.{length, drop};
+ghost use lib.Seq.{paste};
+ghost use Rattle.digest.specs.Message.{hashed, rest};
+ghost use Rattle.digest.specs.Message as Message;
+ghost use Rattle.digest.specs.Sha256.{compressed};
+ghost use Rattle.digest.specs.Running as Spec;
+ghost use Rattle.digest.specs.Ready.{Ready};
+
+// The most bytes of a message, 2^61 - 1: their bits are counted in 64 bits.
+const LIMIT: u64 = 2305843009213693951;
+
+// Eight words, the bytes that wait for the rest of their block, their count, and the total of all bytes.
+pub struct Running {
+    pub words: [u32; 8],
+    pub waiting: [u8; 64],
+    pub count: usize,
+    pub total: u64,
+}
+
+// What feeding gives back: the answer, and the next running digest.
+pub struct Fed {
+    pub answer: Answer,
+    pub running: Running,
+}
+
+// What finishing gives back: the answer, the digest, and the running digest as it was.
+pub struct Finished {
+    pub answer: Answer,
+    pub digest: [u8; 32],
+    pub running: Running,
+}
+
+// The words after all whole blocks of s.
+fn blocks(words: [u32; 8], s: &[u8]) -> [u32; 8]
+    ensures { λ r. ⌜ r ≡ hashed compressed words (now (s .entry)) ⌝ }
+{
+    let mut h = words;
+    let mut at: usize = 0;
+    while 64 <= s.len() - at {
+        let next = sha256::compressed(h, &s[at..at + 64]);
+        h = next;
+        at += 64;
+    }
+    h
+}
+
+// Whether every byte from an index on is 0.
+fn zero_from(bytes: [u8; 64], from: usize) -> bool
+    requires { ⌜ from ≤ 64 ⌝ }
+    ensures { λ r. ⌜ r ≡ Spec.allZero (drop from bytes) ⌝ }
+{
+    let mut i = from;
+    while i < 64 {
+        if bytes[i] != 0 {
+            return false;
+        }
+        i += 1;
+    }
+    true
+}
+
+// The waiting bytes with s after them.
+fn filled(waiting: [u8; 64], count: usize, s: &[u8]) -> [u8; 64]
+    requires { ⌜ count + length (now s) ≤ 64 ⌝ }
+    ensures { λ r. ⌜ r ≡ paste waiting count (now (s .entry)) (length (now (s .entry))) ⌝ }
+{
+    let mut w = waiting;
+    bytes::put(&mut w, count, s);
+    w
+}
+
+// The bytes of s past its whole blocks, as they wait.
+fn kept(s: &[u8]) -> [u8; 64]
+    ensures { λ r. ⌜ r ≡ Spec.padded (rest (now (s .entry))) ⌝ }
+{
+    let from = s.len() - s.len() % 64;
+    filled([0u8; 64], 0, &s[from..])
+}
+
+impl Running {
+    // The running digest of no bytes.
+    pub fn start() -> Self
+        ensures { λ r. ⌜ r ≡ Spec.start Message.sha256 ⌝ }
+    {
+        Self {
+            words: sha256::START,
+            waiting: [0u8; 64],
+            count: 0,
+            total: 0,
+        }
+    }
+
+    // Whether it is possible.
+    fn possible(self) -> bool
+        ensures { λ r. ⌜ r ≡ Spec.possible self ⌝ }
+    {
+        let count = self.count;
+        let waiting = self.waiting;
+        let total = self.total;
+        if count as u64 == total % 64 {
+            zero_from(waiting, count)
+        } else {
+            false
+        }
+    }
+
+    // Whether it is possible and takes so many bytes more.
+    fn accepts(self, more: usize) -> bool
+        ensures { λ r. ⌜ r ≡ Spec.accepts self more ⌝ }
+    {
+        let n = more as u64;
+        if self.total <= LIMIT {
+            if n <= LIMIT - self.total {
+                return self.possible();
+            }
+        }
+        false
+    }
+
+    // The running digest after s.
+    fn fed(self, s: &[u8]) -> Self
+        requires { ⌜ Ready self (length (now s)) ⌝ }
+        ensures { λ r. ⌜ r ≡ Spec.fed Message.sha256 self (now (s .entry)) ⌝ }
+    {
+        let count = self.count;
+        let words = self.words;
+        let waiting = self.waiting;
+        let total = self.total + (s.len() as u64);
+        let room = 64 - count;
+        if s.len() < room {
+            let more = filled(waiting, count, s);
+            let held = count + s.len();
+            return Running {
+                words,
+                waiting: more,
+                count: held,
+                total,
+            };
+        }
+        let full = filled(waiting, count, &s[..room]);
+        let first = sha256::compressed(words, &full);
+        let after = &s[room..];
+        let next = blocks(first, after);
+        let left = kept(after);
+        let over = after.len() % 64;
+        Running {
+            words: next,
+            waiting: left,
+            count: over,
+            total,
+        }
+    }
+
+    // Feeds s. A refusal, 25, hands back what it got.
+    pub fn feed(self, s: &[u8]) -> Fed
+        ensures { λ r. ⌜ r ≡ Spec.feeding Message.sha256 self (now (s .entry)) ⌝ }
+    {
+        if self.accepts(s.len()) {
+            let next = self.fed(s);
+            Fed {
+                answer: Answer::accepted(0),
+                running: next,
+            }
+        } else {
+            Fed {
+                answer: Answer::refused(25, 0),
+                running: self,
+            }
+        }
+    }
+
+    // The digest of all bytes so far.
+    fn finished(self) -> [u8; 32]
+        requires { ⌜ Ready self 0 ⌝ }
+        ensures { λ r. ⌜ r ≡ Spec.finished Message.sha256 self ⌝ }
+    {
+        let count = self.count;
+        let words = self.words;
+        let waiting = self.waiting;
+        let bits = bytes::number_bytes(8 * self.total);
+        let n: usize = if count < 56 { 64 } else { 128 };
+        let end = padding::ending(waiting, count, bits, n);
+        let h = blocks(words, &end[..n]);
+        bytes::word_bytes(h)
+    }
+
+    // The digest of all bytes so far. A refusal, 25, has 32 zero bytes. The running digest comes back as it was, and can be fed on.
+    pub fn finish(self) -> Finished
+        ensures { λ r. ⌜ r ≡ Spec.finishing Message.sha256 self ⌝ }
+    {
+        if self.accepts(0) {
+            let digest = self.finished();
+            Finished {
+                answer: Answer::accepted(0),
+                digest,
+                running: self,
+            }
+        } else {
+            Finished {
+                answer: Answer::refused(25, 0),
+                digest: [0u8; 32],
+                running: self,
+            }
+        }
+    }
+}
