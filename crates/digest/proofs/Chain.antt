@@ -36,11 +36,6 @@ module _ (f : List ℕ → List ℕ → List ℕ) where
       let a : at ≡ 64 * (at / 64) = omega arith in
       rw n (p ∙ ap₂ f e (ap₂ (λ (i j : ℕ). take i (drop j m)) k a))
 
-  -- one whole block
-  pub hashed-one : (h b : List ℕ) → length b ≡ 64 → hashed f h b ≡ f h b
-  unfolding hashed chain
-  hashed-one h b e = rw e (ap (f h) (take-all 64 b (omega arith)))
-
 -- the blocks of a ++ b are those of a, and those of what a left with b behind it
 blocks-more : (a b : List ℕ) → length (a ++ b) / 64 ≡ length a / 64 + length (rest a ++ b) / 64
 unfolding rest

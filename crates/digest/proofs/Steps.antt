@@ -13,7 +13,7 @@ use Rattle.digest.specs.Message.{Algorithm, hashed, rest}
 use Rattle.digest.specs.Running.{waitingBytes, allZero, possible, limit, accepts, padded, fed}
 use Rattle.digest.specs.Ready.{Ready}
 use Rattle.digest.specs.declared.running.Running.{Running}
-use Rattle.digest.proofs.Chain.{hashed-more, hashed-one, hashed-few, rest-more, rest-few, rest-one, length-rest}
+use Rattle.digest.proofs.Chain.{hashed-more, hashed-few, rest-more, rest-few, rest-one, length-rest}
 use Rattle.digest.proofs.Zeros.{and-left, and-right, zeros-after, drop-replicate}
 
 -- the test gives the facts
@@ -75,7 +75,7 @@ module _ (a : Algorithm) (s : Running) (m : List ℕ) (l : length (s .waiting) �
 
   -- a block is filled, whole blocks follow, and what is left waits
   pub fed-many : (full h₁ t h₂ w : List ℕ) → s .count < 64 → 64 ≤ s .count + length m
-      → full ≡ paste (s .waiting) (s .count) (take (64 - s .count) m) (length (take (64 - s .count) m)) → h₁ ≡ a .block (s .words) full
+      → full ≡ paste (s .waiting) (s .count) (take (64 - s .count) m) (length (take (64 - s .count) m)) → h₁ ≡ hashed (a .block) (s .words) full
       → t ≡ drop (64 - s .count) m → h₂ ≡ hashed (a .block) h₁ t → w ≡ padded (rest t)
       → _≡_ {A = Running} (record { words = h₂; waiting = w; count = length t % 64; total = s .total + length m }) (fed a s m)
   unfolding fed
@@ -93,7 +93,7 @@ module _ (a : Algorithm) (s : Running) (m : List ℕ) (l : length (s .waiting) �
       ap (λ (x : List ℕ). F ++ x) et ∙ append-assoc (waitingBytes s) (take r m) (drop r m) ∙ ap (λ (x : List ℕ). waitingBytes s ++ x) (take-append-drop r m) in
       let r₁ : rest F ++ t ≡ t = ap (λ (x : List ℕ). x ++ t) (rest-one F nF) in
       let hs : h₂ ≡ hashed f (s .words) all =
-      e₂ ∙ ap (λ (x : List ℕ). hashed f x t) (e₁ ∙ ap (f (s .words)) fF ∙ sym (hashed-one f (s .words) F nF))
+      e₂ ∙ ap (λ (x : List ℕ). hashed f x t) (e₁ ∙ ap (hashed f (s .words)) fF)
       ∙ ap (hashed f (hashed f (s .words) F)) (sym r₁) ∙ hashed-more f (s .words) F t ∙ ap (hashed f (s .words)) joined in
       let rs : rest t ≡ rest all = ap rest (sym r₁) ∙ rest-more F t ∙ ap rest joined in
       let ws : w ≡ padded (rest all) = ew ∙ ap padded rs in

@@ -7,9 +7,8 @@ ghost use mathlib.Core.Path.{_≡_};
 ghost use Prim.Native.Nat.{_+_, _≤_};
 ghost use lib.ListN.{length, drop};
 ghost use lib.Seq.{paste};
-ghost use Rattle.digest.specs.Message.{hashed, rest};
+ghost use Rattle.digest.specs.Message.{rest};
 ghost use Rattle.digest.specs.Message as Message;
-ghost use Rattle.digest.specs.Sha256.{compressed};
 ghost use Rattle.digest.specs.Running as Spec;
 ghost use Rattle.digest.specs.Ready.{Ready};
 
@@ -35,20 +34,6 @@ pub struct Finished {
     pub answer: Answer,
     pub digest: [u8; 32],
     pub running: Running,
-}
-
-// The words after all whole blocks of s.
-fn blocks(words: [u32; 8], s: &[u8]) -> [u32; 8]
-    ensures { λ r. ⌜ r ≡ hashed compressed words (now (s .entry)) ⌝ }
-{
-    let mut h = words;
-    let mut at: usize = 0;
-    while 64 <= s.len() - at {
-        let next = sha256::compressed(h, &s[at..at + 64]);
-        h = next;
-        at += 64;
-    }
-    h
 }
 
 // Whether every byte from an index on is 0.
@@ -145,9 +130,9 @@ impl Running {
             };
         }
         let full = filled(waiting, count, &s[..room]);
-        let first = sha256::compressed(words, &full);
+        let first = sha256::blocks(words, &full);
         let after = &s[room..];
-        let next = blocks(first, after);
+        let next = sha256::blocks(first, after);
         let left = kept(after);
         let over = after.len() % 64;
         Running {
@@ -187,7 +172,7 @@ impl Running {
         let bits = bytes::number_bytes(8 * self.total);
         let n: usize = if count < 56 { 64 } else { 128 };
         let end = padding::ending(waiting, count, bits, n);
-        let h = blocks(words, &end[..n]);
+        let h = sha256::blocks(words, &end[..n]);
         bytes::word_bytes(h)
     }
 

@@ -1,10 +1,11 @@
-// What SHA-256 makes of one block: FIPS 180-4, 6.2.2.
+// What SHA-256 makes of the blocks of a message: FIPS 180-4, 6.2.2.
 use crate::words;
 use std::num::wrapping_add_u32;
 ghost use mathlib.Core.Path.{_≡_};
 ghost use Prim.Native.Nat.{_+_, _*_, _^_, _<_, _≤_};
 ghost use lib.ListN.{length, take};
 ghost use Rattle.digest.specs.Lists.{tabulate};
+ghost use Rattle.digest.specs.Message.{hashed};
 ghost use Rattle.digest.specs.Sha256 as Spec;
 
 // 4.2.2: the constants of the rounds.
@@ -141,7 +142,7 @@ fn next_word(w: &[u32; 64], t: usize) -> u32
     wrapping_add_u32(three, w[t - 16])
 }
 
-// The 64 words of the message schedule.
+// The 64 words of the message schedule, two in a turn: neither needs the other, so that they are computed side by side.
 fn schedule(block: &[u8]) -> [u32; 64]
     requires { ⌜ length (now block) ≡ 64 ⌝ }
     ensures { λ r. ⌜ r ≡ Spec.schedule (now (block .entry)) ⌝ }
@@ -149,9 +150,11 @@ fn schedule(block: &[u8]) -> [u32; 64]
     let mut w = loaded(block);
     let mut t: usize = 16;
     while t < 64 {
-        let x = next_word(&w, t);
-        w[t] = x;
-        t += 1;
+        let even = next_word(&w, t);
+        w[t] = even;
+        let odd = next_word(&w, t + 1);
+        w[t + 1] = odd;
+        t += 2;
     }
     w
 }
@@ -200,10 +203,10 @@ fn round(v: Working, k: u32, w: u32) -> Working
 }
 
 // The 64 rounds, four in a turn: the working variables are moved once for four rounds.
-fn rounds(v: Working, w: &[u32; 64]) -> Working
+fn rounds(v: Working, k: &[u32; 64], w: &[u32; 64]) -> Working
+    requires { ⌜ now k ≡ Spec.constants ⌝ }
     ensures { λ r. ⌜ r ≡ Spec.rounds 64 (now (w .entry)) v ⌝ }
 {
-    let k = &K;
     let mut u = v;
     let mut t: usize = 0;
     while t < 64 {
@@ -233,11 +236,26 @@ fn added(v: Working, h: [u32; 8]) -> [u32; 8]
 }
 
 // The hash value after one block.
-pub(crate) fn compressed(h: [u32; 8], block: &[u8]) -> [u32; 8]
-    requires { ⌜ length (now block) ≡ 64 ⌝ }
+fn compressed(h: [u32; 8], k: &[u32; 64], block: &[u8]) -> [u32; 8]
+    requires { ⌜ (now k ≡ Spec.constants) × (length (now block) ≡ 64) ⌝ }
     ensures { λ r. ⌜ r ≡ Spec.compressed h (now (block .entry)) ⌝ }
 {
     let w = schedule(block);
-    let v = rounds(opened(h), &w);
+    let v = rounds(opened(h), k, &w);
     added(v, h)
+}
+
+// The hash value after all whole blocks of s. The table of constants is lent once for all of them: `&K` copies it.
+pub(crate) fn blocks(start: [u32; 8], s: &[u8]) -> [u32; 8]
+    ensures { λ r. ⌜ r ≡ hashed Spec.compressed start (now (s .entry)) ⌝ }
+{
+    let k = &K;
+    let mut h = start;
+    let mut at: usize = 0;
+    while 64 <= s.len() - at {
+        let next = compressed(h, k, &s[at..at + 64]);
+        h = next;
+        at += 64;
+    }
+    h
 }

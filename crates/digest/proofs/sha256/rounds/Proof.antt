@@ -1,7 +1,7 @@
 use native.Mathlib.Omega.{arith}
 use Prim.Native.Nat.{_%_}
 use mathlib.Core.Path.{_≡_, refl}
-use Rattle.digest.specs.Sha256.{constants, rounds}
+use Rattle.digest.specs.Sha256.{rounds}
 use Rattle.digest.proofs.Rounds.{rounds-next}
 use borrow.Author.Needs.{needs}
 use Prim.Native.Nat.{ℕ, _+_, _-_, _*_, _<_, _≤_}
@@ -10,10 +10,10 @@ use Rattle.digest.proofs.sha256.rounds.Statement.{statement}
 use Rattle.digest.proofs.sha256.rounds.Tie as tie
 
 abbrev Inv-loop : tie.InvT-loop
-Inv-loop w k u₀ t₀ u t = (t ≤ 64) × (t % 4 ≡ 0) × (u ≡ rounds t w u₀)
+Inv-loop k w u₀ t₀ u t = (t ≤ 64) × (t % 4 ≡ 0) × (u ≡ rounds t w u₀)
 
 abbrev μ-loop : tie.MeasureT-loop
-μ-loop w k u₀ t₀ u t = 64 - t
+μ-loop k w u₀ t₀ u t = 64 - t
 
 loop-holds : tie.Need-loop-holds Inv-loop μ-loop
 unfolding rounds
@@ -104,8 +104,7 @@ loop-less : tie.Need-loop-less Inv-loop μ-loop
 loop-less c = search needs
 
 loop-again : tie.Need-loop-again Inv-loop μ-loop
-unfolding constants
-loop-again c = let b₃ = c .before .before .before in let b₆ = b₃ .before .before .before in let b₉ = b₆ .before .before .before in let loop = b₉ .before .before .before .before .loop in let first = rounds-next _ _ _ _ (loop .t) (loop .t + 1) (omega arith) (loop .inv .2) (b₉ .round .ensures) in let second = rounds-next _ _ _ _ (loop .t + 1) (loop .t + 2) (omega arith) first (b₆ .round2 .ensures) in let third = rounds-next _ _ _ _ (loop .t + 2) (loop .t + 3) (omega arith) second (b₃ .round3 .ensures) in (search needs, search needs, rounds-next _ _ _ _ (loop .t + 3) (loop .t + 4) (omega arith) third (c .round4 .ensures))
+loop-again c = let b₃ = c .before .before .before in let b₆ = b₃ .before .before .before in let b₉ = b₆ .before .before .before in let loop = b₉ .before .before .before .before .loop in let k = b₉ .before .before .before .before .before .pre in let first = rounds-next _ _ _ _ _ (loop .t) (loop .t + 1) k (omega arith) (loop .inv .2) (b₉ .round .ensures) in let second = rounds-next _ _ _ _ _ (loop .t + 1) (loop .t + 2) k (omega arith) first (b₆ .round2 .ensures) in let third = rounds-next _ _ _ _ _ (loop .t + 2) (loop .t + 3) k (omega arith) second (b₃ .round3 .ensures) in (search needs, search needs, rounds-next _ _ _ _ _ (loop .t + 3) (loop .t + 4) k (omega arith) third (c .round4 .ensures))
 
 returns : tie.Need-returns Inv-loop μ-loop
 returns c = let e : c .before .loop .t ≡ 64 = omega arith in rw e at (c .before .loop .inv .2)

@@ -1,7 +1,8 @@
 use native.Mathlib.Omega.{arith}
+use Prim.Native.Nat.{_%_}
 use mathlib.Core.Path.{_≡_, sym, _∙_}
 use lib.Seq.{take-all}
-use lib.ListN.{take}
+use lib.ListN.{take, length-set}
 use Rattle.digest.specs.Lists.{tabulate}
 use Rattle.digest.specs.Sha256.{wordOf, extended, schedule}
 use Rattle.digest.proofs.Tables.{length-tabulate}
@@ -13,7 +14,7 @@ use Rattle.digest.proofs.sha256.schedule.Statement.{statement}
 use Rattle.digest.proofs.sha256.schedule.Tie as tie
 
 abbrev Inv-loop : tie.InvT-loop
-Inv-loop block w₀ t₀ w t = (16 ≤ t) × (t ≤ 64) × (length w ≡ 64) × (take t w ≡ extended (t - 16) (tabulate (wordOf block) 16))
+Inv-loop block w₀ t₀ w t = (16 ≤ t) × (t ≤ 64) × (t % 2 ≡ 0) × (length w ≡ 64) × (take t w ≡ extended (t - 16) (tabulate (wordOf block) 16))
 
 abbrev μ-loop : tie.MeasureT-loop
 μ-loop block w₀ t₀ w t = 64 - t
@@ -23,7 +24,7 @@ loaded-requires c κs = search needs
 
 loop-holds : tie.Need-loop-holds Inv-loop μ-loop
 unfolding extended
-loop-holds c = (search needs, search needs, search needs, c .loaded .ensures)
+loop-holds c = (search needs, search needs, search needs, search needs, c .loaded .ensures)
 
 next-word-requires : tie.Need-next-word-requires Inv-loop μ-loop
 next-word-requires c κs = search needs
@@ -34,6 +35,21 @@ mul-w c = search needs
 array-write-w : tie.Need-array-write-w Inv-loop μ-loop
 array-write-w c = search needs
 
+add-next-word : tie.Need-add-next-word Inv-loop μ-loop
+add-next-word c = search needs
+
+next-word-requires-2 : tie.Need-next-word-requires-2 Inv-loop μ-loop
+next-word-requires-2 c κs = search needs
+
+add-w : tie.Need-add-w Inv-loop μ-loop
+add-w c = search needs
+
+mul-w-2 : tie.Need-mul-w-2 Inv-loop μ-loop
+mul-w-2 c = search needs
+
+array-write-w-2 : tie.Need-array-write-w-2 Inv-loop μ-loop
+array-write-w-2 c = search needs
+
 add-t : tie.Need-add-t Inv-loop μ-loop
 add-t c = search needs
 
@@ -41,11 +57,11 @@ loop-less : tie.Need-loop-less Inv-loop μ-loop
 loop-less c = search needs
 
 loop-again : tie.Need-loop-again Inv-loop μ-loop
-loop-again c = let inv = c .before .before .before .loop .inv in (search needs, search needs, search needs, extended-next _ _ _ _ (length-tabulate _ 16) (inv .0) (search needs) (inv .3) (c .next-word .ensures))
+loop-again c = let loop = c .before .before .before .before .before .loop in let even = extended-next _ _ (loop .t) (loop .t + 1) _ (omega arith) (length-tabulate _ 16) (search needs) (search needs) (loop .inv .4) (c .before .before .next-word .ensures) in (search needs, search needs, search needs, search needs, extended-next _ _ (loop .t + 1) (loop .t + 2) _ (omega arith) (length-tabulate _ 16) (search needs) (simp length-set (omega arith)) even (c .next-word2 .ensures))
 
 returns : tie.Need-returns Inv-loop μ-loop
 unfolding schedule
-returns c = let e : c .before .loop .t ≡ 64 = omega arith in sym (take-all 64 _ (omega arith)) ∙ (rw e at (c .before .loop .inv .3))
+returns c = let e : c .before .loop .t ≡ 64 = omega arith in sym (take-all 64 _ (omega arith)) ∙ (rw e at (c .before .loop .inv .4))
 
 pub schedule-spec : {M : Type 1} → statement M
 schedule-spec =
@@ -58,6 +74,11 @@ schedule-spec =
     next-word-requires
     mul-w
     array-write-w
+    add-next-word
+    next-word-requires-2
+    add-w
+    mul-w-2
+    array-write-w-2
     add-t
     loop-less
     loop-again

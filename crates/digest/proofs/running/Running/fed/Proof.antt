@@ -28,11 +28,11 @@ slice-aggregate-filled c = simp length-take (omega arith)
 filled-requires-2 : tie.Need-filled-requires-2
 filled-requires-2 c κs = simp length-take (omega arith)
 
-slice-aggregate-compressed : tie.Need-slice-aggregate-compressed
-slice-aggregate-compressed c = search needs
+slice-aggregate-blocks : tie.Need-slice-aggregate-blocks
+slice-aggregate-blocks c = search needs
 
-compressed-requires : tie.Need-compressed-requires
-compressed-requires c κs = search needs
+blocks-requires : tie.Need-blocks-requires
+blocks-requires c κs = search needs
 
 sub-after : tie.Need-sub-after
 sub-after c = search needs
@@ -43,14 +43,14 @@ part-after-start c = search needs
 part-after-end : tie.Need-part-after-end
 part-after-end c = search needs
 
-blocks-requires : tie.Need-blocks-requires
-blocks-requires c κs = search needs
+blocks-requires-2 : tie.Need-blocks-requires-2
+blocks-requires-2 c κs = search needs
 
 kept-requires : tie.Need-kept-requires
 kept-requires c κs = search needs
 
 returns-2 : tie.Need-returns-2
-returns-2 c = let start = c .before .before .before .before .before .before .before .before .before .before .before .before in let at-compressed = c .before .before .before in fed-many sha256 _ _ (search needs) _ _ _ _ _ (omega (arith, start .pre .counted)) (omega arith) (at-compressed .before .before .filled2 .ensures) (at-compressed .compressed .ensures) (part-to-end (start .args .s .now) (64 - start .args .self .count)) (c .before .blocks2 .ensures) (c .kept .ensures)
+returns-2 c = let start = c .before .before .before .before .before .before .before .before .before .before .before .before in let at-first = c .before .before .before in fed-many sha256 _ _ (search needs) _ _ _ _ _ (omega (arith, start .pre .counted)) (omega arith) (at-first .before .before .filled2 .ensures) (at-first .blocks2 .ensures) (part-to-end (start .args .s .now) (64 - start .args .self .count)) (c .before .blocks3 .ensures) (c .kept .ensures)
 
 pub fed-spec : {M : Type 1} → statement M
 fed-spec =
@@ -63,11 +63,11 @@ fed-spec =
     returns
     slice-aggregate-filled
     filled-requires-2
-    slice-aggregate-compressed
-    compressed-requires
+    slice-aggregate-blocks
+    blocks-requires
     sub-after
     part-after-start
     part-after-end
-    blocks-requires
+    blocks-requires-2
     kept-requires
     returns-2)

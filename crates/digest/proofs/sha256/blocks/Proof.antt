@@ -2,20 +2,20 @@ use native.Mathlib.Omega.{arith}
 use Prim.Native.Nat.{_/_, _%_}
 use mathlib.Core.Path.{_≡_, refl}
 use lib.ListN.{length-take, length-drop}
-use Rattle.digest.specs.Sha256.{compressed}
+use Rattle.digest.specs.Sha256.{constants, compressed}
 use Rattle.digest.specs.Message.{chain, hashed}
 use Rattle.digest.proofs.Chain.{chain-next}
 use borrow.Author.Needs.{needs}
 use Prim.Native.Nat.{ℕ, _+_, _-_, _*_, _<_, _≤_}
 use lib.ListN.{length}
-use Rattle.digest.proofs.running.blocks.Statement.{statement}
-use Rattle.digest.proofs.running.blocks.Tie as tie
+use Rattle.digest.proofs.sha256.blocks.Statement.{statement}
+use Rattle.digest.proofs.sha256.blocks.Tie as tie
 
 abbrev Inv-loop : tie.InvT-loop
-Inv-loop s h₀ at₀ h at = (at ≤ length s) × (at % 64 ≡ 0) × (h ≡ chain compressed (at / 64) h₀ s)
+Inv-loop s k h₀ at₀ h at = (at ≤ length s) × (at % 64 ≡ 0) × (h ≡ chain compressed (at / 64) h₀ s)
 
 abbrev μ-loop : tie.MeasureT-loop
-μ-loop s h₀ at₀ h at = length s - at
+μ-loop s k h₀ at₀ h at = length s - at
 
 loop-holds : tie.Need-loop-holds Inv-loop μ-loop
 unfolding chain
@@ -37,7 +37,8 @@ part-compressed-end : tie.Need-part-compressed-end Inv-loop μ-loop
 part-compressed-end c = search needs
 
 compressed-requires : tie.Need-compressed-requires Inv-loop μ-loop
-compressed-requires c κs = simp (length-take, length-drop) (omega arith)
+unfolding constants
+compressed-requires c κs = (refl, simp (length-take, length-drop) (omega arith))
 
 add-at : tie.Need-add-at Inv-loop μ-loop
 add-at c = search needs
@@ -50,7 +51,7 @@ loop-again c = let loop = c .before .before .before .loop in (search needs, sear
 
 returns : tie.Need-returns Inv-loop μ-loop
 unfolding hashed
-returns c = let e : c .before .loop .at / 64 ≡ length (c .before .before .before .args .s .now) / 64 = omega arith in rw e at (c .before .loop .inv .2)
+returns c = let e : c .before .loop .at / 64 ≡ length (c .before .before .before .before .args .s .now) / 64 = omega arith in rw e at (c .before .loop .inv .2)
 
 pub blocks-spec : {M : Type 1} → statement M
 blocks-spec =
