@@ -6,7 +6,7 @@ use mathlib.Core.Bool.{Bool, true, false, _&&_}
 use mathlib.Core.List.{List, [], _∷_, _++_, flatten}
 use native.Mathlib.Nat.{add-zero, zero-add}
 use native.Mathlib.Omega.{arith}
-use borrow.Author.Tests.{leb-true, leb-false, le-leb}
+use borrow.Author.Tests.{leb-true, leb-false, le-leb, lt-leb}
 use lib.Dec.{leb}
 use lib.ListN.{length, replicate, length-append, length-replicate}
 use lib.Seq.{paste-zero}
@@ -21,7 +21,7 @@ use Rattle.digest.specs.declared.running.Fed.{Fed}
 use Rattle.digest.specs.declared.running.Finished.{Finished}
 use Rattle.digest.specs.declared.message.Hashed.{Hashed}
 use Rattle.digest.proofs.Chain.{length-rest}
-use Rattle.digest.proofs.Steps.{ready, accepts-within, fed-few}
+use Rattle.digest.proofs.Steps.{ready, accepts-within, accepts-past, fed-few}
 use Rattle.digest.proofs.Zeros.{and-left}
 use Rattle.digest.proofs.Feeding.{two-feedings, digest-so-far, accepts-fed}
 use Rattle.digest.proofs.Answers.{feeding-accepted, feeding-refused, finishing-accepted}
@@ -92,45 +92,74 @@ calls a parts =
       finish-digest = λ h. from h .finish-digest ∙ digest-so-far a (flatten parts);
     }
 
--- ---- a whole message, fed at once
-module _ (a : Algorithm) (m : List ℕ) where
-  hashing-accepted : leb (length m) limit ≡ true → hashing a m ≡ record { answer = accepted 0; digest = digestOf a m }
+-- ---- a message fed in parts: x was fed, y is the next part
+accepts-after : (a : Algorithm) (x : List ℕ) (n : ℕ) (b : Bool) → leb (length x + n) limit ≡ b → accepts (fed a (start a) x) n ≡ b
+unfolding start fed
+accepts-after a x n true e =
+    let h : length x + n ≤ limit = leb-true (length x + n) limit e in
+    accepts-fed a (start a) x n refl refl (omega arith)
+accepts-after a x n false e =
+    let h : limit < length x + n = leb-false (length x + n) limit e in
+    sym (accepts-past (fed a (start a) x) n (omega arith))
+
+-- nothing was fed yet
+pub start-fed : (a : Algorithm) → start a ≡ fed a (start a) []
+unfolding start
+start-fed a = fed-nothing a (start a) refl (accepts-start a 0)
+
+module _ (a : Algorithm) where
+  hashing-accepted : (m : List ℕ) → leb (length m) limit ≡ true → hashing a m ≡ record { answer = accepted 0; digest = digestOf a m }
   unfolding hashing if_then_else_
-  hashing-accepted e = rw e refl
+  hashing-accepted m e = rw e refl
 
-  hashing-refused : leb (length m) limit ≡ false → hashing a m ≡ record { answer = refused 25 0; digest = replicate (a .size) 0 }
+  hashing-refused : (m : List ℕ) → leb (length m) limit ≡ false → hashing a m ≡ record { answer = refused 25 0; digest = replicate (a .size) 0 }
   unfolding hashing if_then_else_
-  hashing-refused e = rw e refl
+  hashing-refused m e = rw e refl
 
-  fed-accepted : leb (length m) limit ≡ true → feeding a (start a) m ≡ record { answer = accepted 0; running = fed a (start a) m }
-  fed-accepted e = feeding-accepted a (start a) m (accepts-start a (length m) ∙ e)
+  module _ (x y : List ℕ) where
+    fed-by : (b : Bool) → leb (length x + length y) limit ≡ b → Fed
+    fed-by true e = record { answer = accepted 0; running = fed a (start a) (x ++ y) }
+    fed-by false e = record { answer = refused 25 0; running = fed a (start a) x }
 
-  fed-refused : leb (length m) limit ≡ false → feeding a (start a) m ≡ record { answer = refused 25 0; running = start a }
-  fed-refused e = feeding-refused a (start a) m (accepts-start a (length m) ∙ e)
+    feeding-next : (b : Bool) (e : leb (length x + length y) limit ≡ b) → feeding a (fed a (start a) x) y ≡ fed-by b e
+    unfolding fed-by
+    feeding-next true e =
+        feeding-accepted a (fed a (start a) x) y (accepts-after a x (length y) true e)
+        ∙ ap (λ (s : Running). record { answer = accepted 0; running = s }) (two-feedings a (start a) x y)
+    feeding-next false e = feeding-refused a (fed a (start a) x) y (accepts-after a x (length y) false e)
 
-  -- the feeding is refused
-  refused-by : (b : Bool) → leb (length m) limit ≡ b → (f : Fed) → f ≡ feeding a (start a) m → (f .answer .number ≡ 0 → ⊥)
-      → _≡_ {A = Hashed} (record { answer = f .answer; digest = replicate (a .size) 0 }) (hashing a m)
-  refused-by true e f p n = absurd (n (ap (λ (x : Fed). x .answer .number) (p ∙ fed-accepted e)))
-  refused-by false e f p n = cc (fed-refused e, hashing-refused e)
+    -- the part is taken
+    taken-by : (b : Bool) → leb (length x + length y) limit ≡ b → (f : Fed) → f ≡ feeding a (fed a (start a) x) y → f .answer .number ≡ 0
+        → (f .running ≡ fed a (start a) (x ++ y)) × (length (x ++ y) ≤ limit)
+    unfolding fed-by
+    taken-by true e f p n =
+        let h : length x + length y ≤ limit = leb-true (length x + length y) limit e in
+        (ap (λ (r : Fed). r .running) (p ∙ feeding-next true e), simp length-append (omega arith))
+    taken-by false e f p n =
+        let z : 25 ≡ f .answer .number = sym (ap (λ (r : Fed). r .answer .number) (p ∙ feeding-next false e)) in
+        absurd (omega arith)
 
-  -- the feeding is accepted, and finished
-  accepted-by : (b : Bool) → leb (length m) limit ≡ b → (f : Fed) (g : Finished) → f ≡ feeding a (start a) m → f .answer .number ≡ 0 → g ≡ finishing a (f .running)
-      → _≡_ {A = Hashed} (record { answer = f .answer; digest = g .digest }) (hashing a m)
+    -- the part is refused: the whole message, whatever follows the part, is too long
+    refused-by : (b : Bool) → leb (length x + length y) limit ≡ b → (f : Fed) (m : List ℕ) → f ≡ feeding a (fed a (start a) x) y → (f .answer .number ≡ 0 → ⊥)
+        → length x + length y ≤ length m → _≡_ {A = Hashed} (record { answer = f .answer; digest = replicate (a .size) 0 }) (hashing a m)
+    unfolding fed-by
+    refused-by true e f m p n l = absurd (n (ap (λ (r : Fed). r .answer .number) (p ∙ feeding-next true e)))
+    refused-by false e f m p n l =
+        let h : limit < length x + length y = leb-false (length x + length y) limit e in
+        cc (feeding-next false e, hashing-refused m (lt-leb (length m) limit (omega arith)))
+
+    pub part-taken : (f : Fed) → f ≡ feeding a (fed a (start a) x) y → f .answer .number ≡ 0 → (f .running ≡ fed a (start a) (x ++ y)) × (length (x ++ y) ≤ limit)
+    part-taken = taken-by (leb (length x + length y) limit) refl
+
+    pub part-refused : (f : Fed) (m : List ℕ) → f ≡ feeding a (fed a (start a) x) y → (f .answer .number ≡ 0 → ⊥) → length x + length y ≤ length m
+        → _≡_ {A = Hashed} (record { answer = f .answer; digest = replicate (a .size) 0 }) (hashing a m)
+    part-refused = refused-by (leb (length x + length y) limit) refl
+
+  -- all of the message was fed
+  pub parts-finished : (m : List ℕ) (g : Finished) → g ≡ finishing a (fed a (start a) m) → length m ≤ limit
+      → _≡_ {A = Hashed} (record { answer = g .answer; digest = g .digest }) (hashing a m)
   unfolding start
-  accepted-by true e f g p n q =
-      let s : f .running ≡ fed a (start a) m = ap (λ (x : Fed). x .running) (p ∙ fed-accepted e) in
-      let d : g .digest ≡ digestOf a m =
-      ap (λ (x : Finished). x .digest) (q ∙ ap (finishing a) s ∙ finishing-fed a (start a) m refl (accepts-start a (length m) ∙ e)) ∙ digest-so-far a m in
-      cc (fed-accepted e, hashing-accepted e)
-  accepted-by false e f g p n q =
-      let z : 25 ≡ f .answer .number = sym (ap (λ (x : Fed). x .answer .number) (p ∙ fed-refused e)) in
-      absurd (omega arith)
-
-  pub whole-refused : (f : Fed) → f ≡ feeding a (start a) m → (f .answer .number ≡ 0 → ⊥)
-      → _≡_ {A = Hashed} (record { answer = f .answer; digest = replicate (a .size) 0 }) (hashing a m)
-  whole-refused = refused-by (leb (length m) limit) refl
-
-  pub whole-accepted : (f : Fed) (g : Finished) → f ≡ feeding a (start a) m → f .answer .number ≡ 0 → g ≡ finishing a (f .running)
-      → _≡_ {A = Hashed} (record { answer = f .answer; digest = g .digest }) (hashing a m)
-  whole-accepted = accepted-by (leb (length m) limit) refl
+  parts-finished m g p l =
+      let e : leb (length m) limit ≡ true = le-leb (length m) limit l in
+      let q = p ∙ finishing-fed a (start a) m refl (accepts-start a (length m) ∙ e) in
+      cc (hashing-accepted m e, digest-so-far a m, q)

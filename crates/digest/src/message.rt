@@ -16,15 +16,16 @@ pub fn sha256(message: &[u8]) -> Hashed
     ensures { λ r. ⌜ r ≡ Spec.hashing Message.sha256 (now (message .entry)) ⌝ }
 {
     let fed = Running::start().feed(message);
-    let answer = fed.answer;
-    if answer.number != 0 {
+    let refusal = fed.answer;
+    if refusal.number != 0 {
         return Hashed {
-            answer,
+            answer: refusal,
             digest: [0u8; 32],
         };
     }
     let whole = fed.running;
     let done = whole.finish();
+    let answer = done.answer;
     let digest = done.digest;
     Hashed { answer, digest }
 }

@@ -1,0 +1,115 @@
+// Every kind of 25, and the neighbour that is accepted.
+use crate::print;
+use digest::running::Running;
+
+// The most bytes that a running digest takes.
+const LIMIT: u64 = 2305843009213693951;
+
+// Byte i of the waiting bytes: `count` letters, `after` behind them, and zeros.
+fn byte(i: usize, count: usize, after: u8) -> u8 {
+    if i < count {
+        return 0x61;
+    }
+    if i == count {
+        return after;
+    }
+    0
+}
+
+// A running digest of arbitrary words: `count` letters wait, and `after` stands behind them.
+fn state(count: usize, after: u8, total: u64) -> Running {
+    let mut waiting = [0u8; 64];
+    let mut i: usize = 0;
+    while i < 64 {
+        waiting[i] = byte(i, count, after);
+        i += 1;
+    }
+    Running {
+        words: [1, 2, 3, 4, 5, 6, 7, 0xffffffff],
+        waiting,
+        count,
+        total,
+    }
+}
+
+// Whether two running digests are the same in each field.
+fn same(a: Running, b: Running) -> bool {
+    let u = a.words;
+    let v = b.words;
+    let x = a.waiting;
+    let y = b.waiting;
+    let mut i: usize = 0;
+    while i < 64 {
+        if x[i] != y[i] {
+            return false;
+        }
+        if u[i / 8] != v[i / 8] {
+            return false;
+        }
+        i += 1;
+    }
+    if a.count != b.count {
+        return false;
+    }
+    a.total == b.total
+}
+
+fn kept(a: Running, b: Running) {
+    if same(a, b) {
+        print::word(b"kept");
+    } else {
+        print::word(b"changed");
+    }
+}
+
+fn run_finish(name: &[u8], s: Running) {
+    let done = s.finish();
+    let answer = done.answer;
+    let digest = done.digest;
+    let back = done.running;
+    print::word(name);
+    print::word(b"finish");
+    print::answer(answer);
+    kept(s, back);
+    print::digest(digest);
+}
+
+// Feeds s, and finishes what comes back.
+fn run_feed(name: &[u8], s: Running, bytes: &[u8]) {
+    let fed = s.feed(bytes);
+    let answer = fed.answer;
+    let next = fed.running;
+    let done = next.finish();
+    let digest = done.digest;
+    print::word(name);
+    print::word(b"feed");
+    print::decimal(bytes.len());
+    print::answer(answer);
+    kept(s, next);
+    print::decimal(next.count);
+    print::digest(digest);
+}
+
+fn run_one(name: &[u8], s: Running, bytes: &[u8]) {
+    run_finish(name, s);
+    run_feed(name, s, bytes);
+}
+
+pub(crate) fn run() {
+    run_one(b"possible", state(3, 0, 3), b"bbbbb");
+    run_one(b"possible-after-blocks", state(63, 0, 191), &[0x62u8; 200]);
+    run_one(b"count-above-total", state(1, 0, 0), b"b");
+    run_one(b"count-below-total", state(2, 0, 3), b"b");
+    run_one(b"count-of-a-block", state(64, 0, 64), b"b");
+    run_one(b"byte-past-the-waiting", state(3, 1, 3), b"b");
+    run_one(b"total-at-the-limit", state(63, 0, LIMIT), b"");
+    run_one(
+        b"total-at-the-limit-and-one-more",
+        state(63, 0, LIMIT),
+        b"b",
+    );
+    run_one(b"total-past-the-limit", state(0, 0, LIMIT + 1), b"");
+    run_one(b"largest-total", state(63, 0, 18446744073709551615), b"b");
+    run_one(b"feeding-to-the-limit", state(62, 0, LIMIT - 1), b"b");
+    run_one(b"feeding-past-the-limit", state(62, 0, LIMIT - 1), b"bb");
+}
