@@ -1,18 +1,15 @@
 -- What the calls answer, by the test that the code makes.
 -- Assumes nothing.
-use Prim.Native.Nat.{ℕ, _≤_, _<_}
-use mathlib.Core.Path.{_≡_, refl, sym, ap, _∙_}
-use mathlib.Core.Bool.{Bool, true, false}
+use Rattle.answer.specs.If.{if_then_else_}
+use Prim.Native.Nat.{ℕ}
+use mathlib.Core.Path.{_≡_, refl}
+use mathlib.Core.Bool.{true, false}
 use mathlib.Core.List.{List}
 use lib.ListN.{length, replicate}
-use Rattle.answer.specs.If.{if_then_else_}
 use Rattle.answer.specs.Answer.{accepted, refused}
-use Rattle.answer.specs.declared.Answer.{Answer}
 use Rattle.digest.specs.Message.{Algorithm}
 use Rattle.digest.specs.Running.{accepts, fed, finished, feeding, finishing}
 use Rattle.digest.specs.declared.running.Running.{Running}
-use Rattle.digest.specs.declared.running.Fed.{Fed}
-use Rattle.digest.specs.declared.running.Finished.{Finished}
 
 module _ (a : Algorithm) (s : Running) where
   pub feeding-accepted : (m : List ℕ) → accepts s (length m) ≡ true → feeding a s m ≡ record { answer = accepted 0; running = fed a s m }

@@ -1,21 +1,20 @@
 -- What calls give one after the other: the digest of all bytes so far, from the start and from any possible running digest.
 -- Assumes nothing.
-use Prim.Native.Nat.{ℕ, _+_, _-_, _%_, _<_, _≤_}
-use mathlib.Core.Path.{_≡_, refl, sym, ap, ap₂, _∙_}
-use mathlib.Core.Bool.{Bool, true, false, _&&_}
+use Rattle.answer.specs.If.{if_then_else_}
+use Prim.Native.Nat.{ℕ, _+_, _<_, _≤_}
+use mathlib.Core.Path.{_≡_, refl, sym, ap, _∙_}
+use mathlib.Core.Bool.{Bool, true, false}
 use mathlib.Core.List.{List, [], _∷_, _++_, flatten}
-use native.Mathlib.Nat.{add-zero, zero-add}
+use native.Mathlib.Nat.{zero-add}
 use native.Mathlib.Omega.{arith}
 use borrow.Author.Tests.{leb-true, leb-false, le-leb, lt-leb}
 use lib.Dec.{leb}
 use lib.ListN.{length, replicate, length-append, length-replicate}
 use lib.Seq.{paste-zero}
-use Rattle.answer.specs.If.{if_then_else_}
 use Rattle.answer.specs.Answer.{accepted, refused}
-use Rattle.digest.specs.Message.{Algorithm, rest, digestOf}
-use Rattle.digest.specs.Running.{waitingBytes, allZero, possible, limit, accepts, padded, start, fed, finished, feeding, finishing, hashing}
-use Rattle.digest.specs.Theorems.{afterCalls, Calls, CallsFrom}
-use Rattle.digest.specs.Ready.{Ready}
+use Rattle.digest.specs.Message.{Algorithm, digestOf}
+use Rattle.digest.specs.Running.{allZero, possible, limit, accepts, start, fed, finished, feeding, finishing, hashing}
+use Rattle.digest.specs.Theorems.{afterCalls, Calls, CallsFrom, AnyStart}
 use Rattle.digest.specs.declared.running.Running.{Running}
 use Rattle.digest.specs.declared.running.Fed.{Fed}
 use Rattle.digest.specs.declared.running.Finished.{Finished}
@@ -71,7 +70,7 @@ finishing-fed a s m l e =
     let r = ready s (length m) e in
     finishing-accepted a (fed a s m) (accepts-fed a s m 0 l (r .counted) (omega (arith, r .within)))
 
-pub calls-from : (a : Algorithm) (s : Running) (parts : List (List ℕ)) → length (s .waiting) ≡ 64 → accepts s (length (flatten parts)) ≡ true → CallsFrom a s parts
+pub calls-from : AnyStart
 calls-from a s parts l e =
     let state = calls-are a s parts l e in
     let done = ap (finishing a) state ∙ finishing-fed a s (flatten parts) l e in
@@ -83,7 +82,7 @@ calls a parts =
     let takes : (n : ℕ) → n ≤ limit → accepts (start a) n ≡ true = λ n h. accepts-start a n ∙ le-leb n limit h in
     let from : length (flatten parts) ≤ limit → CallsFrom a (start a) parts = λ h. calls-from a (start a) parts refl (takes (length (flatten parts)) h) in
     record {
-      fed-answer = λ m h.
+      feed-answer = λ m h.
           let n : length (flatten parts ++ m) ≡ length (flatten parts) + length m = length-append (flatten parts) m in
           let s : afterCalls a (start a) parts ≡ fed a (start a) (flatten parts) = from (omega arith) .state in
           let t : accepts (fed a (start a) (flatten parts)) (length m) ≡ true = accepts-fed a (start a) (flatten parts) (length m) refl refl (omega arith) in

@@ -2,12 +2,12 @@
 -- Assumes nothing.
 use Prim.Native.Nat.{ℕ, zero, suc, _+_, _-_, _*_, _/_, _%_, _<_, _≤_}
 use mathlib.Core.Path.{_≡_, refl, sym, ap, ap₂, _∙_}
-use mathlib.Core.List.{List, [], _∷_, _++_}
+use mathlib.Core.List.{List, [], _++_}
 use native.Mathlib.Nat.{add-zero, add-suc}
 use native.Mathlib.Omega.{arith}
 use lib.ListN.{length, take, drop, length-append, length-drop, drop-of-length-le}
-use lib.Seq.{take-append-le, drop-append-le, drop-drop, take-all}
-use Rattle.digest.specs.Message.{blockOf, chain, hashed, rest}
+use lib.Seq.{take-append-le, drop-append-le, drop-drop}
+use Rattle.digest.specs.Message.{chain, hashed, rest}
 
 module _ (f : List ℕ → List ℕ → List ℕ) where
   -- n blocks depend on the first 64 * n bytes alone

@@ -1,20 +1,19 @@
 -- Feeding in parts is feeding the whole, and finishing after it is the digest of the whole message, for any algorithm.
 -- Assumes nothing.
-use Prim.Native.Nat.{ℕ, _+_, _-_, _%_, _<_, _≤_}
-use mathlib.Core.Path.{_≡_, refl, sym, ap, ap₂, _∙_}
-use mathlib.Core.Bool.{Bool, true, _&&_}
-use mathlib.Core.List.{List, [], _∷_, _++_, append-assoc, append-nil}
+use Prim.Native.Nat.{ℕ, _+_, _-_, _%_, _≤_}
+use mathlib.Core.Path.{_≡_, ap, ap₂, _∙_}
+use mathlib.Core.Bool.{true, _&&_}
+use mathlib.Core.List.{List, _++_, append-assoc}
 use native.Mathlib.Nat.{zero-add}
 use native.Mathlib.Omega.{arith}
 use borrow.Author.Tests.{eq-eqb, le-leb}
 use lib.Dec.{eqb, leb}
-use lib.ListN.{length, take, drop, replicate, length-append}
+use lib.ListN.{length, drop, replicate, length-append}
 use lib.Seq.{take-append-seam, drop-append-seam, length-take-le}
 use Rattle.digest.specs.Padding.{wordBytes, padding}
 use Rattle.digest.specs.Message.{Algorithm, hashed, rest, digestOf}
 use Rattle.digest.specs.Running.{waitingBytes, allZero, possible, limit, accepts, padded, start, fed, finished}
 use Rattle.digest.specs.Theorems.{TwoFeedings, DigestSoFar}
-use Rattle.digest.specs.Ready.{Ready}
 use Rattle.digest.specs.declared.running.Running.{Running}
 use Rattle.digest.proofs.Chain.{hashed-more, rest-more, length-rest}
 use Rattle.digest.proofs.Zeros.{zeros-zero}

@@ -1,6 +1,6 @@
 -- Lists of zeros: the room past the waiting bytes, and the padding's zero bytes.
 -- Assumes nothing.
-use Prim.Native.Nat.{ℕ, zero, suc, _+_, _-_, _%_, _<_, _≤_}
+use Prim.Native.Nat.{ℕ, zero, suc, _+_, _-_, _<_, _≤_}
 use mathlib.Core.Path.{_≡_, refl, sym, ap, ap₂, _∙_}
 use mathlib.Core.Bool.{Bool, true, false, _&&_, false≢true}
 use mathlib.Core.List.{List, [], _∷_, _++_, append-assoc}
@@ -10,7 +10,6 @@ use borrow.Author.Tests.{eq-eqb, ne-eqb, eqb-true}
 use lib.Dec.{eqb}
 use lib.ListN.{length, getD, set, take, drop, replicate, length-append, length-replicate, length-drop}
 use lib.Seq.{drop-cons, drop-drop, paste, take-paste, take-length, take-all, take-append-add, set-append-seam}
-use Rattle.digest.specs.Padding.{zerosAfter}
 use Rattle.digest.specs.Running.{allZero}
 use Rattle.digest.specs.Theorems.{FewestZeros}
 

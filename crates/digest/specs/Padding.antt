@@ -1,6 +1,6 @@
 -- The bytes of numbers and words, and the padding of a message to whole blocks of 64 bytes: FIPS 180-4, 3.1 and 5.1.1; RFC 1321, 3.1 and 3.2.
 -- Assumes nothing.
-use Prim.Native.Nat.{ℕ, _+_, _-_, _*_, _/_, _%_, _^_}
+use Prim.Native.Nat.{ℕ, _-_, _*_, _/_, _%_, _^_}
 use mathlib.Core.List.{List, _∷_, _++_}
 use lib.ListN.{replicate}
 use Rattle.digest.specs.Lists.{at, tabulate}

@@ -1,7 +1,7 @@
 -- What holds of the definitions, stated here and proved in proofs/. 01, "How much the promises say": "the digest after each feeding equals FIPS 180-4
 -- over all bytes so far".
 -- Assumes nothing.
-use Prim.Native.Nat.{ℕ, _+_, _-_, _%_, _^_, _<_, _≤_}
+use Prim.Native.Nat.{ℕ, _+_, _%_, _<_, _≤_}
 use mathlib.Core.Path.{_≡_}
 use mathlib.Core.Bool.{true}
 use mathlib.Core.List.{List, [], _∷_, _++_, flatten}
@@ -27,7 +27,7 @@ pub record StartWordsRule : Type 0 where
   pub table : length startWords ≡ 8
   pub rule : (i : ℕ) → i < 8 → RootBits 2 (at (primesBelow 20) i) (at startWords i)
 
--- FIPS 180-4, 5.1.1: "the smallest, non-negative solution" k, here in bytes after the byte 80
+-- FIPS 180-4, 5.1.1: "the smallest, non-negative solution" k, here in bytes after the byte 80; for every length n of a message
 pub record FewestZeros (n : ℕ) : Type 0 where
   pub solves : (n + 1 + zerosAfter n) % 64 ≡ 56
   pub smallest : (k : ℕ) → (n + 1 + k) % 64 ≡ 56 → zerosAfter n ≤ k
@@ -45,15 +45,18 @@ unfoldable pub afterCalls : Algorithm → Running → List (List ℕ) → Runnin
 afterCalls a s [] = s
 afterCalls a s (m ∷ parts) = afterCalls a (feeding a s m .running) parts
 
--- from the start, any calls of feed whose bytes are within the limit, and then a call of feed or of finish: each call of feed is accepted, and finish gives
--- the digest of all bytes so far
+-- After any calls of feed from the start, in which all bytes are within the limit: a call of feed that stays within it is accepted, and a call of finish is
+-- accepted and gives the digest of all bytes so far. For every algorithm and all parts.
 pub record Calls (a : Algorithm) (parts : List (List ℕ)) : Type 0 where
-  pub fed-answer : (m : List ℕ) → length (flatten parts ++ m) ≤ limit → feeding a (afterCalls a (start a) parts) m .answer ≡ accepted 0
+  pub feed-answer : (m : List ℕ) → length (flatten parts ++ m) ≤ limit → feeding a (afterCalls a (start a) parts) m .answer ≡ accepted 0
   pub finish-answer : length (flatten parts) ≤ limit → finishing a (afterCalls a (start a) parts) .answer ≡ accepted 0
   pub finish-digest : length (flatten parts) ≤ limit → finishing a (afterCalls a (start a) parts) .digest ≡ digestOf a (flatten parts)
 
--- the same from any running digest that is possible, whatever its words are
+-- The same from any running digest that takes all the bytes, whatever its words are: "any eight words will do".
 pub record CallsFrom (a : Algorithm) (s : Running) (parts : List (List ℕ)) : Type 0 where
   pub state : afterCalls a s parts ≡ fed a s (flatten parts)
   pub finish-answer : finishing a (afterCalls a s parts) .answer ≡ accepted 0
   pub finish-digest : finishing a (afterCalls a s parts) .digest ≡ finished a (fed a s (flatten parts))
+
+abbrev pub AnyStart : Type 0
+AnyStart = (a : Algorithm) (s : Running) (parts : List (List ℕ)) → length (s .waiting) ≡ 64 → accepts s (length (flatten parts)) ≡ true → CallsFrom a s parts

@@ -2,7 +2,7 @@
 use digest::message::Hashed;
 use digest::running::Running;
 ghost use mathlib.Core.Path.{_≡_};
-ghost use Prim.Native.Nat.{_<_, _≤_};
+ghost use Prim.Native.Nat.{_<_};
 ghost use Rattle.digest.specs.Message.{sha256};
 ghost use Rattle.digest.specs.Running.{hashing};
 ghost use Rattle.digest_vectors.specs.Parts.{Part};

@@ -5,7 +5,7 @@ use native.Mathlib.Numerals.{add-one}
 use lib.Seq.{paste, paste-zero, paste-suc}
 use lib.ListN.{length-set, getD, set}
 use borrow.Author.Needs.{needs}
-use Prim.Native.Nat.{ℕ, _+_, _-_, _*_, _<_, _≤_}
+use Prim.Native.Nat.{ℕ, _+_, _-_, _≤_}
 use lib.ListN.{length}
 use Rattle.digest.proofs.bytes.put.Statement.{statement}
 use Rattle.digest.proofs.bytes.put.Tie as tie
@@ -35,13 +35,21 @@ loop-less : tie.Need-loop-less Inv-loop μ-loop
 loop-less c = search needs
 
 loop-again : tie.Need-loop-again Inv-loop μ-loop
-loop-again c = let inv = c .before .before .loop .inv in let args = c .before .before .before .args in let i = c .before .before .loop .i in (search needs, simp length-set (inv .1), ap (λ (l : List ℕ). set l (args .at + i) (getD (args .from .now) i 0)) (inv .2) ∙ (rw add-one (paste-suc (args .to .now) (args .at) (args .from .now) i 0 (search needs) (search needs))))
+loop-again c =
+    let inv = c .before .before .loop .inv in
+    let args = c .before .before .before .args in
+    let i = c .before .before .loop .i in
+    let one-more = paste-suc (args .to .now) (args .at) (args .from .now) i 0 (search needs) (search needs) in
+    let same = ap (λ (l : List ℕ). set l (args .at + i) (getD (args .from .now) i 0)) (inv .2) in
+    (search needs, simp length-set (inv .1), same ∙ (rw add-one one-more))
 
 same-length : tie.Need-same-length Inv-loop μ-loop
 same-length c = search needs
 
 returns : tie.Need-returns Inv-loop μ-loop
-returns c = let e : c .before .loop .i ≡ length (c .before .before .args .from .now) = omega arith in rw e at (c .before .loop .inv .2)
+returns c =
+    let e : c .before .loop .i ≡ length (c .before .before .args .from .now) = omega arith in
+    rw e at (c .before .loop .inv .2)
 
 pub put-spec : {M : Type 1} → statement M
 put-spec =

@@ -1,6 +1,5 @@
 use mathlib.Core.Path.{refl}
 use Rattle.digest.specs.Padding.{byteOf}
-use Prim.Native.Nat.{ℕ, _+_, _-_, _*_, _<_, _≤_}
 use borrow.Author.Needs.{needs}
 use Rattle.digest.proofs.bytes.word_byte.Statement.{statement}
 use Rattle.digest.proofs.bytes.word_byte.Tie as tie

@@ -7,7 +7,7 @@ use Rattle.digest.specs.Lists.{at, tabulate}
 use Rattle.digest.specs.Padding.{bigEndian, byteOf, wordBytes}
 use Rattle.digest.proofs.Tables.{tabulate-next}
 use borrow.Author.Needs.{needs}
-use Prim.Native.Nat.{ℕ, _+_, _-_, _*_, _<_, _≤_}
+use Prim.Native.Nat.{_-_, _≤_}
 use lib.ListN.{length}
 use Rattle.digest.proofs.bytes.word_bytes.Statement.{statement}
 use Rattle.digest.proofs.bytes.word_bytes.Tie as tie
@@ -45,7 +45,9 @@ loop-again c = (search needs, search needs, tabulate-next _ _ _ _ (search needs)
 
 returns : tie.Need-returns Inv-loop μ-loop
 unfolding wordBytes
-returns c = let e : c .before .loop .i ≡ 32 = omega arith in sym (take-all 32 _ (omega arith)) ∙ (rw e at (c .before .loop .inv .2))
+returns c =
+    let e : c .before .loop .i ≡ 32 = omega arith in
+    sym (take-all 32 _ (omega arith)) ∙ (rw e at (c .before .loop .inv .2))
 
 pub word-bytes-spec : {M : Type 1} → statement M
 word-bytes-spec =

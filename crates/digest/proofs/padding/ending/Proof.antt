@@ -3,7 +3,6 @@ use mathlib.Core.Path.{_≡_, sym}
 use lib.ListN.{length, take, length-take, length-set}
 use lib.Seq.{length-take-le}
 use Rattle.digest.proofs.Zeros.{ending-stores}
-use Prim.Native.Nat.{ℕ, _+_, _-_, _*_, _<_, _≤_}
 use borrow.Author.Needs.{needs}
 use Rattle.digest.proofs.padding.ending.Statement.{statement}
 use Rattle.digest.proofs.padding.ending.Tie as tie
@@ -33,10 +32,17 @@ slice-aggregate-put-4 : tie.Need-slice-aggregate-put-4
 slice-aggregate-put-4 c = search needs
 
 put-requires-2 : tie.Need-put-requires-2
-put-requires-2 c κs = let k : length (c .before .before .before .put .last .0) ≡ 128 = c .before .before .before .put .kept .0 in let e : length (c .before .before .before .before .before .before .args .t3) ≡ 8 = search needs in simp length-set (omega arith)
+put-requires-2 c κs =
+    let k : length (c .before .before .before .put .last .0) ≡ 128 = c .before .before .before .put .kept .0 in
+    let e : length (c .before .before .before .before .before .before .args .t3) ≡ 8 = search needs in
+    simp length-set (omega arith)
 
 returns : tie.Need-returns
-returns c = let args = c .before .before .before .before .before .before .before .before .args in ending-stores (take (args .count) (args .t1)) (args .t3) _ _ 128 (args .n) (args .count) (length-take-le _ _ (search needs)) (search needs) (search needs) (search needs) (c .before .before .before .before .before .put .ensures) (c .before .put2 .ensures)
+returns c =
+    let args = c .before .before .before .before .before .before .before .before .args in
+    let first = c .before .before .before .before .before .put .ensures in
+    ending-stores (take (args .count) (args .t1)) (args .t3) _ _ 0x80 (args .n) (args .count) (length-take-le _ _ (search needs)) (search needs) (search needs)
+    (search needs) first (c .before .put2 .ensures)
 
 pub ending-spec : {M : Type 1} → statement M
 ending-spec =

@@ -1,6 +1,5 @@
 use mathlib.Core.Path.{refl, _∙_}
 use Rattle.digest.proofs.Steps.{kept-rest}
-use Prim.Native.Nat.{ℕ, _+_, _-_, _*_, _<_, _≤_}
 use borrow.Author.Needs.{needs}
 use Rattle.digest.proofs.running.kept.Statement.{statement}
 use Rattle.digest.proofs.running.kept.Tie as tie

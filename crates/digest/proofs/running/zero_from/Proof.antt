@@ -4,7 +4,7 @@ use lib.ListN.{drop, drop-of-length-le}
 use Rattle.digest.specs.Running.{allZero}
 use Rattle.digest.proofs.Zeros.{zero-next, zero-not}
 use borrow.Author.Needs.{needs}
-use Prim.Native.Nat.{ℕ, _+_, _-_, _*_, _<_, _≤_}
+use Prim.Native.Nat.{_-_, _≤_}
 use lib.ListN.{length}
 use Rattle.digest.proofs.running.zero_from.Statement.{statement}
 use Rattle.digest.proofs.running.zero_from.Tie as tie

@@ -1,5 +1,4 @@
 use Rattle.digest.specs.Sha256.{added}
-use Prim.Native.Nat.{ℕ, _+_, _-_, _*_, _<_, _≤_}
 use borrow.Author.Needs.{needs}
 use Rattle.digest.proofs.sha256.added.Statement.{statement}
 use Rattle.digest.proofs.sha256.added.Tie as tie

@@ -6,7 +6,7 @@ use Rattle.digest.specs.Sha256.{constants, compressed}
 use Rattle.digest.specs.Message.{chain, hashed}
 use Rattle.digest.proofs.Chain.{chain-next}
 use borrow.Author.Needs.{needs}
-use Prim.Native.Nat.{ℕ, _+_, _-_, _*_, _<_, _≤_}
+use Prim.Native.Nat.{_-_, _≤_}
 use lib.ListN.{length}
 use Rattle.digest.proofs.sha256.blocks.Statement.{statement}
 use Rattle.digest.proofs.sha256.blocks.Tie as tie
@@ -47,11 +47,15 @@ loop-less : tie.Need-loop-less Inv-loop μ-loop
 loop-less c = search needs
 
 loop-again : tie.Need-loop-again Inv-loop μ-loop
-loop-again c = let loop = c .before .before .before .loop in (search needs, search needs, chain-next compressed _ _ _ _ (loop .at) (loop .inv .1) (loop .inv .2) (c .compressed .ensures))
+loop-again c =
+    let loop = c .before .before .before .loop in
+    (search needs, search needs, chain-next compressed _ _ _ _ (loop .at) (loop .inv .1) (loop .inv .2) (c .compressed .ensures))
 
 returns : tie.Need-returns Inv-loop μ-loop
 unfolding hashed
-returns c = let e : c .before .loop .at / 64 ≡ length (c .before .before .before .before .args .s .now) / 64 = omega arith in rw e at (c .before .loop .inv .2)
+returns c =
+    let e : c .before .loop .at / 64 ≡ length (c .before .before .before .before .args .s .now) / 64 = omega arith in
+    rw e at (c .before .loop .inv .2)
 
 pub blocks-spec : {M : Type 1} → statement M
 blocks-spec =

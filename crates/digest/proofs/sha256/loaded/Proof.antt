@@ -5,7 +5,7 @@ use Rattle.digest.specs.Lists.{tabulate}
 use Rattle.digest.specs.Sha256.{wordOf}
 use Rattle.digest.proofs.Tables.{tabulate-next}
 use borrow.Author.Needs.{needs}
-use Prim.Native.Nat.{ℕ, _+_, _-_, _*_, _<_, _≤_}
+use Prim.Native.Nat.{_-_, _≤_}
 use lib.ListN.{length}
 use Rattle.digest.proofs.sha256.loaded.Statement.{statement}
 use Rattle.digest.proofs.sha256.loaded.Tie as tie
@@ -39,7 +39,9 @@ loop-again : tie.Need-loop-again Inv-loop μ-loop
 loop-again c = (search needs, search needs, tabulate-next _ _ _ _ (search needs) (c .before .before .loop .inv .2) (c .word .ensures))
 
 returns : tie.Need-returns Inv-loop μ-loop
-returns c = let e : c .before .loop .i ≡ 16 = omega arith in rw e at (c .before .loop .inv .2)
+returns c =
+    let e : c .before .loop .i ≡ 16 = omega arith in
+    rw e at (c .before .loop .inv .2)
 
 pub loaded-spec : {M : Type 1} → statement M
 loaded-spec =

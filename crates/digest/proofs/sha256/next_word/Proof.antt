@@ -1,6 +1,5 @@
 use Rattle.digest.specs.Sha256.{nextWord}
 use Rattle.digest.proofs.Rounds.{sum-more}
-use Prim.Native.Nat.{ℕ, _+_, _-_, _*_, _<_, _≤_}
 use borrow.Author.Needs.{needs}
 use Rattle.digest.proofs.sha256.next_word.Statement.{statement}
 use Rattle.digest.proofs.sha256.next_word.Tie as tie
@@ -58,7 +57,10 @@ wrapping-add-u32-requires-3 c κs = search needs
 
 returns : tie.Need-returns
 unfolding nextWord
-returns c = let sum = sum-more _ _ (sum-more _ _ (c .before .before .before .wrapping-add-u32 .ensures) (c .before .before .wrapping-add-u322 .ensures)) (c .wrapping-add-u323 .ensures) in cc
+returns c =
+    let three = sum-more _ _ (c .before .before .before .wrapping-add-u32 .ensures) (c .before .before .wrapping-add-u322 .ensures) in
+    let four = sum-more _ _ three (c .wrapping-add-u323 .ensures) in
+    cc
 
 pub next-word-spec : {M : Type 1} → statement M
 next-word-spec =

@@ -1,6 +1,5 @@
 use mathlib.Core.Path.{refl}
 use Rattle.digest.specs.Sha256.{opened}
-use Prim.Native.Nat.{ℕ, _+_, _-_, _*_, _<_, _≤_}
 use borrow.Author.Needs.{needs}
 use Rattle.digest.proofs.sha256.opened.Statement.{statement}
 use Rattle.digest.proofs.sha256.opened.Tie as tie

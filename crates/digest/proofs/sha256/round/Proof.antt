@@ -1,6 +1,5 @@
 use Rattle.digest.specs.Sha256.{round}
 use Rattle.digest.proofs.Rounds.{sum-more}
-use Prim.Native.Nat.{ℕ, _+_, _-_, _*_, _<_, _≤_}
 use borrow.Author.Needs.{needs}
 use Rattle.digest.proofs.sha256.round.Statement.{statement}
 use Rattle.digest.proofs.sha256.round.Tie as tie
@@ -40,7 +39,13 @@ wrapping-add-u32-requires-7 c κs = search needs
 
 returns : tie.Need-returns
 unfolding round
-returns c = let b₅ = c .before .before .before .before .before in let b₈ = b₅ .before .before .before in let t₁ = sum-more _ _ (sum-more _ _ (sum-more _ _ (b₈ .wrapping-add-u32 .ensures) (b₅ .before .before .wrapping-add-u322 .ensures)) (b₅ .before .wrapping-add-u323 .ensures)) (b₅ .wrapping-add-u324 .ensures) in cc
+returns c =
+    let b₅ = c .before .before .before .before .before in
+    let b₈ = b₅ .before .before .before in
+    let three = sum-more _ _ (b₈ .wrapping-add-u32 .ensures) (b₅ .before .before .wrapping-add-u322 .ensures) in
+    let four = sum-more _ _ three (b₅ .before .wrapping-add-u323 .ensures) in
+    let t₁ = sum-more _ _ four (b₅ .wrapping-add-u324 .ensures) in
+    cc
 
 pub round-spec : {M : Type 1} → statement M
 round-spec =

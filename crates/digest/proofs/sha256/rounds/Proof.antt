@@ -4,8 +4,7 @@ use mathlib.Core.Path.{_≡_, refl}
 use Rattle.digest.specs.Sha256.{rounds}
 use Rattle.digest.proofs.Rounds.{rounds-next}
 use borrow.Author.Needs.{needs}
-use Prim.Native.Nat.{ℕ, _+_, _-_, _*_, _<_, _≤_}
-use lib.ListN.{length}
+use Prim.Native.Nat.{_+_, _-_, _≤_}
 use Rattle.digest.proofs.sha256.rounds.Statement.{statement}
 use Rattle.digest.proofs.sha256.rounds.Tie as tie
 
@@ -104,10 +103,21 @@ loop-less : tie.Need-loop-less Inv-loop μ-loop
 loop-less c = search needs
 
 loop-again : tie.Need-loop-again Inv-loop μ-loop
-loop-again c = let b₃ = c .before .before .before in let b₆ = b₃ .before .before .before in let b₉ = b₆ .before .before .before in let loop = b₉ .before .before .before .before .loop in let k = b₉ .before .before .before .before .before .pre in let first = rounds-next _ _ _ _ _ (loop .t) (loop .t + 1) k (omega arith) (loop .inv .2) (b₉ .round .ensures) in let second = rounds-next _ _ _ _ _ (loop .t + 1) (loop .t + 2) k (omega arith) first (b₆ .round2 .ensures) in let third = rounds-next _ _ _ _ _ (loop .t + 2) (loop .t + 3) k (omega arith) second (b₃ .round3 .ensures) in (search needs, search needs, rounds-next _ _ _ _ _ (loop .t + 3) (loop .t + 4) k (omega arith) third (c .round4 .ensures))
+loop-again c =
+    let b₃ = c .before .before .before in
+    let b₆ = b₃ .before .before .before in
+    let b₉ = b₆ .before .before .before in
+    let loop = b₉ .before .before .before .before .loop in
+    let k = b₉ .before .before .before .before .before .pre in
+    let first = rounds-next _ _ _ _ _ (loop .t) (loop .t + 1) k (omega arith) (loop .inv .2) (b₉ .round .ensures) in
+    let second = rounds-next _ _ _ _ _ (loop .t + 1) (loop .t + 2) k (omega arith) first (b₆ .round2 .ensures) in
+    let third = rounds-next _ _ _ _ _ (loop .t + 2) (loop .t + 3) k (omega arith) second (b₃ .round3 .ensures) in
+    (search needs, search needs, rounds-next _ _ _ _ _ (loop .t + 3) (loop .t + 4) k (omega arith) third (c .round4 .ensures))
 
 returns : tie.Need-returns Inv-loop μ-loop
-returns c = let e : c .before .loop .t ≡ 64 = omega arith in rw e at (c .before .loop .inv .2)
+returns c =
+    let e : c .before .loop .t ≡ 64 = omega arith in
+    rw e at (c .before .loop .inv .2)
 
 pub rounds-spec : {M : Type 1} → statement M
 rounds-spec =

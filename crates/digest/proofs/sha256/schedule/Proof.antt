@@ -8,7 +8,7 @@ use Rattle.digest.specs.Sha256.{wordOf, extended, schedule}
 use Rattle.digest.proofs.Tables.{length-tabulate}
 use Rattle.digest.proofs.Rounds.{extended-next}
 use borrow.Author.Needs.{needs}
-use Prim.Native.Nat.{ℕ, _+_, _-_, _*_, _<_, _≤_}
+use Prim.Native.Nat.{_+_, _-_, _≤_}
 use lib.ListN.{length}
 use Rattle.digest.proofs.sha256.schedule.Statement.{statement}
 use Rattle.digest.proofs.sha256.schedule.Tie as tie
@@ -57,11 +57,18 @@ loop-less : tie.Need-loop-less Inv-loop μ-loop
 loop-less c = search needs
 
 loop-again : tie.Need-loop-again Inv-loop μ-loop
-loop-again c = let loop = c .before .before .before .before .before .loop in let even = extended-next _ _ (loop .t) (loop .t + 1) _ (omega arith) (length-tabulate _ 16) (search needs) (search needs) (loop .inv .4) (c .before .before .next-word .ensures) in (search needs, search needs, search needs, search needs, extended-next _ _ (loop .t + 1) (loop .t + 2) _ (omega arith) (length-tabulate _ 16) (search needs) (simp length-set (omega arith)) even (c .next-word2 .ensures))
+loop-again c =
+    let loop = c .before .before .before .before .before .loop in
+    let sixteen = length-tabulate _ 16 in
+    let even = extended-next _ _ (loop .t) (loop .t + 1) _ (omega arith) sixteen (search needs) (search needs) (loop .inv .4) (c .before .before .next-word .ensures) in
+    let odd = extended-next _ _ (loop .t + 1) (loop .t + 2) _ (omega arith) sixteen (search needs) (simp length-set (omega arith)) even (c .next-word2 .ensures) in
+    (search needs, search needs, search needs, search needs, odd)
 
 returns : tie.Need-returns Inv-loop μ-loop
 unfolding schedule
-returns c = let e : c .before .loop .t ≡ 64 = omega arith in sym (take-all 64 _ (omega arith)) ∙ (rw e at (c .before .loop .inv .4))
+returns c =
+    let e : c .before .loop .t ≡ 64 = omega arith in
+    sym (take-all 64 _ (omega arith)) ∙ (rw e at (c .before .loop .inv .4))
 
 pub schedule-spec : {M : Type 1} → statement M
 schedule-spec =

@@ -1,6 +1,5 @@
 use mathlib.Core.Path.{refl}
 use Rattle.digest.specs.Words as Words
-use Prim.Native.Nat.{ℕ, _+_, _-_, _*_, _<_, _≤_}
 use borrow.Author.Needs.{needs}
 use Rattle.digest.proofs.words.rotr.Statement.{statement}
 use Rattle.digest.proofs.words.rotr.Tie as tie

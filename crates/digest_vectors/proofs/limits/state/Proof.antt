@@ -1,6 +1,6 @@
 use mathlib.Core.Path.{_≡_}
 use borrow.Author.Needs.{needs}
-use Prim.Native.Nat.{ℕ, _+_, _-_, _*_, _<_, _≤_}
+use Prim.Native.Nat.{_-_}
 use lib.ListN.{length}
 use Rattle.digest_vectors.proofs.limits.state.Statement.{statement}
 use Rattle.digest_vectors.proofs.limits.state.Tie as tie

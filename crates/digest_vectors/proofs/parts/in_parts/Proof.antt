@@ -1,6 +1,6 @@
 use Rattle.digest_vectors.proofs.SoFar.{SoFar, so-far-start, so-far-next, so-far-refused, so-far-all}
 use borrow.Author.Needs.{needs}
-use Prim.Native.Nat.{ℕ, _+_, _-_, _*_, _<_, _≤_}
+use Prim.Native.Nat.{_-_}
 use lib.ListN.{length}
 use Rattle.digest_vectors.proofs.parts.in_parts.Statement.{statement}
 use Rattle.digest_vectors.proofs.parts.in_parts.Tie as tie
@@ -39,13 +39,17 @@ feed-requires : tie.Need-feed-requires Inv-loop μ-loop
 feed-requires c κs = search needs
 
 returns : tie.Need-returns Inv-loop μ-loop
-returns c = let at-part = c .before .before .before .before .before in so-far-refused _ _ _ _ _ (at-part .before .before .loop .inv) (at-part .next-part .ensures) (c .before .before .before .feed .ensures) (c .if1 .taken)
+returns c =
+    let at-part = c .before .before .before .before .before in
+    so-far-refused _ _ _ _ _ (at-part .before .before .loop .inv) (at-part .next-part .ensures) (c .before .before .before .feed .ensures) (c .if1 .taken)
 
 loop-less : tie.Need-loop-less Inv-loop μ-loop
 loop-less c = search needs
 
 loop-again : tie.Need-loop-again Inv-loop μ-loop
-loop-again c = let at-part = c .before .before .before .before .before .before in so-far-next _ _ _ _ _ (at-part .before .before .loop .inv) (at-part .next-part .ensures) (c .before .before .before .before .feed .ensures) (c .before .if1 .left)
+loop-again c =
+    let at-part = c .before .before .before .before .before .before in
+    so-far-next _ _ _ _ _ (at-part .before .before .loop .inv) (at-part .next-part .ensures) (c .before .before .before .before .feed .ensures) (c .before .if1 .left)
 
 finish-requires : tie.Need-finish-requires Inv-loop μ-loop
 finish-requires c κs = search needs

@@ -1,6 +1,5 @@
 use mathlib.Core.Path.{sym}
 use lib.Seq.{length-take-le}
-use Prim.Native.Nat.{ℕ, _+_, _-_, _*_, _<_, _≤_}
 use borrow.Author.Needs.{needs}
 use Rattle.digest_vectors.proofs.vectors.run_letters.Statement.{statement}
 use Rattle.digest_vectors.proofs.vectors.run_letters.Tie as tie

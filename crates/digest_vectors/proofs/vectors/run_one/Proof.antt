@@ -1,6 +1,5 @@
 use borrow.Author.Needs.{needs}
-use Prim.Native.Nat.{ℕ, _+_, _-_, _*_, _<_, _≤_}
-use lib.ListN.{length}
+use Prim.Native.Nat.{_-_}
 use Rattle.digest_vectors.proofs.vectors.run_one.Statement.{statement}
 use Rattle.digest_vectors.proofs.vectors.run_one.Tie as tie
 

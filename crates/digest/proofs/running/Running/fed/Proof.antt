@@ -2,7 +2,7 @@ use native.Mathlib.Omega.{arith}
 use lib.ListN.{length-take}
 use Rattle.digest.specs.Message.{sha256}
 use Rattle.digest.proofs.Steps.{fed-few, fed-many, part-to-end}
-use Prim.Native.Nat.{ℕ, _+_, _-_, _*_, _<_, _≤_}
+use Prim.Native.Nat.{_-_}
 use borrow.Author.Needs.{needs}
 use Rattle.digest.proofs.running.Running.fed.Statement.{statement}
 use Rattle.digest.proofs.running.Running.fed.Tie as tie
@@ -20,7 +20,9 @@ add-held : tie.Need-add-held
 add-held c = search needs
 
 returns : tie.Need-returns
-returns c = fed-few sha256 _ _ (search needs) _ (c .before .before .before .before .before .before .pre) (omega arith) (c .filled .ensures)
+returns c =
+    let start = c .before .before .before .before .before .before in
+    fed-few sha256 _ _ (search needs) _ (start .pre) (omega arith) (c .filled .ensures)
 
 slice-aggregate-filled : tie.Need-slice-aggregate-filled
 slice-aggregate-filled c = simp length-take (omega arith)
@@ -50,7 +52,13 @@ kept-requires : tie.Need-kept-requires
 kept-requires c κs = search needs
 
 returns-2 : tie.Need-returns-2
-returns-2 c = let start = c .before .before .before .before .before .before .before .before .before .before .before .before in let at-first = c .before .before .before in fed-many sha256 _ _ (search needs) _ _ _ _ _ (omega (arith, start .pre .counted)) (omega arith) (at-first .before .before .filled2 .ensures) (at-first .blocks2 .ensures) (part-to-end (start .args .s .now) (64 - start .args .self .count)) (c .before .blocks3 .ensures) (c .kept .ensures)
+returns-2 c =
+    let start = c .before .before .before .before .before .before .before .before .before .before .before .before in
+    let at-first = c .before .before .before in
+    let full = at-first .before .before .filled2 .ensures in
+    let after = part-to-end (start .args .s .now) (64 - start .args .self .count) in
+    fed-many sha256 _ _ (search needs) _ _ _ _ _ (omega (arith, start .pre .counted)) (omega arith) full (at-first .blocks2 .ensures) after
+    (c .before .blocks3 .ensures) (c .kept .ensures)
 
 pub fed-spec : {M : Type 1} → statement M
 fed-spec =

@@ -2,7 +2,6 @@ use mathlib.Core.Path.{sym, _∙_}
 use Rattle.digest.specs.Message.{sha256}
 use Rattle.digest.proofs.Steps.{ready}
 use Rattle.digest.proofs.Answers.{feeding-accepted, feeding-refused}
-use Prim.Native.Nat.{ℕ, _+_, _-_, _*_, _<_, _≤_}
 use borrow.Author.Needs.{needs}
 use Rattle.digest.proofs.running.Running.feed.Statement.{statement}
 use Rattle.digest.proofs.running.Running.feed.Tie as tie

@@ -2,7 +2,6 @@ use mathlib.Core.Path.{sym, _∙_}
 use Rattle.digest.specs.Message.{sha256}
 use Rattle.digest.proofs.Steps.{ready}
 use Rattle.digest.proofs.Answers.{finishing-accepted, finishing-refused}
-use Prim.Native.Nat.{ℕ, _+_, _-_, _*_, _<_, _≤_}
 use borrow.Author.Needs.{needs}
 use Rattle.digest.proofs.running.Running.finish.Statement.{statement}
 use Rattle.digest.proofs.running.Running.finish.Tie as tie

@@ -1,6 +1,5 @@
 use borrow.Author.Tests.{eq-eqb, ne-eqb}
 use Rattle.digest.specs.Running.{possible}
-use Prim.Native.Nat.{ℕ, _+_, _-_, _*_, _<_, _≤_}
 use borrow.Author.Needs.{needs}
 use Rattle.digest.proofs.running.Running.possible.Statement.{statement}
 use Rattle.digest.proofs.running.Running.possible.Tie as tie

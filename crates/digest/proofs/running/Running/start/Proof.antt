@@ -1,8 +1,6 @@
 use mathlib.Core.Path.{refl}
 use Rattle.digest.specs.Sha256.{startWords}
 use Rattle.digest.specs.Running.{start}
-use borrow.Author.Needs.{needs}
-use Prim.Native.Nat.{ℕ, _+_, _-_, _*_, _<_, _≤_}
 use Rattle.digest.proofs.running.Running.start.Statement.{statement}
 use Rattle.digest.proofs.running.Running.start.Tie as tie
 
