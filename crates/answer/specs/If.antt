@@ -1,4 +1,4 @@
--- A choice by a test.
+-- A choice by a test, for the definitions of every crate: this one lies below all others.
 -- Assumes nothing.
 use mathlib.Core.Bool.{Bool, true, false}
 

@@ -21,7 +21,7 @@ impl Answer {
         }
     }
 
-    // A refusal by its number, and the position that goes with it.
+    // A refusal by its number, which is not 0, and the position that goes with it.
     pub fn refused(number: u8, position: usize) -> Self
         ensures { λ r. ⌜ r ≡ Spec.refused number position ⌝ }
     {

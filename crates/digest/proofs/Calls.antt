@@ -12,18 +12,18 @@ use lib.Dec.{leb}
 use lib.ListN.{length, replicate, length-append, length-replicate}
 use lib.Seq.{paste-zero}
 use Rattle.answer.specs.Answer.{accepted, refused}
-use Rattle.digest.specs.Message.{Algorithm, digestOf}
-use Rattle.digest.specs.Running.{allZero, possible, limit, accepts, start, fed, finished, feeding, finishing, hashing}
-use Rattle.digest.specs.Theorems.{afterCalls, Calls, CallsFrom, AnyStart}
+use Rattle.digest.specs.Message.{Algorithm, digestOf, limit, hashing}
+use Rattle.digest.specs.Running.{allZero, possible, accepts, start, fed, finished, feeding, finishing}
+use Rattle.digest.specs.Theorems.{afterCalls, CallsFromStart, CallsFrom}
 use Rattle.digest.specs.declared.running.Running.{Running}
 use Rattle.digest.specs.declared.running.Fed.{Fed}
 use Rattle.digest.specs.declared.running.Finished.{Finished}
 use Rattle.digest.specs.declared.message.Hashed.{Hashed}
 use Rattle.digest.proofs.Chain.{length-rest}
 use Rattle.digest.proofs.Steps.{ready, accepts-within, accepts-past, fed-few}
-use Rattle.digest.proofs.Zeros.{and-left}
+use Rattle.digest.proofs.Tests.{and-left}
 use Rattle.digest.proofs.Feeding.{two-feedings, digest-so-far, accepts-fed}
-use Rattle.digest.proofs.Answers.{feeding-accepted, feeding-refused, finishing-accepted}
+use Rattle.digest.proofs.Answers.{feeding-accepted, feeding-refused, finishing-accepted, hashing-accepted, hashing-refused}
 
 -- ---- the test, fewer bytes and from the start
 accepts-fewer : (s : Running) (n k : ℕ) → k ≤ n → accepts s n ≡ true → accepts s k ≡ true
@@ -70,25 +70,30 @@ finishing-fed a s m l e =
     let r = ready s (length m) e in
     finishing-accepted a (fed a s m) (accepts-fed a s m 0 l (r .counted) (omega (arith, r .within)))
 
-pub calls-from : AnyStart
+pub calls-from : (a : Algorithm) (s : Running) (parts : List (List ℕ)) → length (s .waiting) ≡ 64 → accepts s (length (flatten parts)) ≡ true → CallsFrom a s parts
 calls-from a s parts l e =
     let state = calls-are a s parts l e in
     let done = ap (finishing a) state ∙ finishing-fed a s (flatten parts) l e in
-    record { state = state; finish-answer = ap (λ (f : Finished). f .answer) done; finish-digest = ap (λ (f : Finished). f .digest) done }
-
-pub calls : (a : Algorithm) (parts : List (List ℕ)) → Calls a parts
-unfolding start
-calls a parts =
-    let takes : (n : ℕ) → n ≤ limit → accepts (start a) n ≡ true = λ n h. accepts-start a n ∙ le-leb n limit h in
-    let from : length (flatten parts) ≤ limit → CallsFrom a (start a) parts = λ h. calls-from a (start a) parts refl (takes (length (flatten parts)) h) in
     record {
+      state = state;
       feed-answer = λ m h.
+          let r = ready s (length (flatten parts ++ m)) h in
           let n : length (flatten parts ++ m) ≡ length (flatten parts) + length m = length-append (flatten parts) m in
-          let s : afterCalls a (start a) parts ≡ fed a (start a) (flatten parts) = from (omega arith) .state in
-          let t : accepts (fed a (start a) (flatten parts)) (length m) ≡ true = accepts-fed a (start a) (flatten parts) (length m) refl refl (omega arith) in
-          ap (λ (r : Running). feeding a r m .answer) s ∙ ap (λ (f : Fed). f .answer) (feeding-accepted a (fed a (start a) (flatten parts)) m t);
-      finish-answer = λ h. from h .finish-answer;
-      finish-digest = λ h. from h .finish-digest ∙ digest-so-far a (flatten parts);
+          let takes = accepts-fed a s (flatten parts) (length m) l (r .counted) (omega (arith, r .within)) in
+          ap (λ (t : Running). feeding a t m .answer) state ∙ ap (λ (f : Fed). f .answer) (feeding-accepted a (fed a s (flatten parts)) m takes);
+      finish-answer = ap (λ (f : Finished). f .answer) done;
+      finish-digest = ap (λ (f : Finished). f .digest) done;
+    }
+
+pub calls : (a : Algorithm) (parts : List (List ℕ)) → length (flatten parts) ≤ limit → CallsFromStart a parts
+unfolding start
+calls a parts l =
+    let takes : (n : ℕ) → n ≤ limit → accepts (start a) n ≡ true = λ n h. accepts-start a n ∙ le-leb n limit h in
+    let from = calls-from a (start a) parts refl (takes (length (flatten parts)) l) in
+    record {
+      feed-answer = λ m h. from .feed-answer m (takes (length (flatten parts ++ m)) h);
+      finish-answer = from .finish-answer;
+      finish-digest = from .finish-digest ∙ digest-so-far a (flatten parts);
     }
 
 -- ---- a message fed in parts: x was fed, y is the next part
@@ -107,14 +112,6 @@ unfolding start
 start-fed a = fed-nothing a (start a) refl (accepts-start a 0)
 
 module _ (a : Algorithm) where
-  hashing-accepted : (m : List ℕ) → leb (length m) limit ≡ true → hashing a m ≡ record { answer = accepted 0; digest = digestOf a m }
-  unfolding hashing if_then_else_
-  hashing-accepted m e = rw e refl
-
-  hashing-refused : (m : List ℕ) → leb (length m) limit ≡ false → hashing a m ≡ record { answer = refused 25 0; digest = replicate (a .size) 0 }
-  unfolding hashing if_then_else_
-  hashing-refused m e = rw e refl
-
   module _ (x y : List ℕ) where
     fed-by : (b : Bool) → leb (length x + length y) limit ≡ b → Fed
     fed-by true e = record { answer = accepted 0; running = fed a (start a) (x ++ y) }
@@ -145,7 +142,7 @@ module _ (a : Algorithm) where
     refused-by true e f m p n l = absurd (n (ap (λ (r : Fed). r .answer .number) (p ∙ feeding-next true e)))
     refused-by false e f m p n l =
         let h : limit < length x + length y = leb-false (length x + length y) limit e in
-        cc (feeding-next false e, hashing-refused m (lt-leb (length m) limit (omega arith)))
+        cc (feeding-next false e, hashing-refused a m (lt-leb (length m) limit (omega arith)))
 
     pub part-taken : (f : Fed) → f ≡ feeding a (fed a (start a) x) y → f .answer .number ≡ 0 → (f .running ≡ fed a (start a) (x ++ y)) × (length (x ++ y) ≤ limit)
     part-taken = taken-by (leb (length x + length y) limit) refl
@@ -161,4 +158,4 @@ module _ (a : Algorithm) where
   parts-finished m g p l =
       let e : leb (length m) limit ≡ true = le-leb (length m) limit l in
       let q = p ∙ finishing-fed a (start a) m refl (accepts-start a (length m) ∙ e) in
-      cc (hashing-accepted m e, digest-so-far a m, q)
+      cc (hashing-accepted a m e, digest-so-far a m, q)

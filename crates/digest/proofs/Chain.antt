@@ -1,4 +1,4 @@
--- Feeding in parts, for any block function: what is hashed and what is left do not depend on how the message is cut.
+-- Feeding in parts, for any block function: what is afterBlocks and what is left do not depend on how the message is cut.
 -- Assumes nothing.
 use Prim.Native.Nat.{ℕ, zero, suc, _+_, _-_, _*_, _/_, _%_, _<_, _≤_}
 use mathlib.Core.Path.{_≡_, refl, sym, ap, ap₂, _∙_}
@@ -7,7 +7,7 @@ use native.Mathlib.Nat.{add-zero, add-suc}
 use native.Mathlib.Omega.{arith}
 use lib.ListN.{length, take, drop, length-append, length-drop, drop-of-length-le}
 use lib.Seq.{take-append-le, drop-append-le, drop-drop}
-use Rattle.digest.specs.Message.{chain, hashed, rest}
+use Rattle.digest.specs.Message.{chain, afterBlocks, rest}
 
 module _ (f : List ℕ → List ℕ → List ℕ) where
   -- n blocks depend on the first 64 * n bytes alone
@@ -45,9 +45,9 @@ rest-append : (a b : List ℕ) → drop (64 * (length a / 64)) (a ++ b) ≡ rest
 unfolding rest
 rest-append a b = drop-append-le (64 * (length a / 64)) a b (omega arith)
 
-pub hashed-more : (f : List ℕ → List ℕ → List ℕ) (h a b : List ℕ) → hashed f (hashed f h a) (rest a ++ b) ≡ hashed f h (a ++ b)
-unfolding hashed
-hashed-more f h a b =
+pub afterBlocks-more : (f : List ℕ → List ℕ → List ℕ) (h a b : List ℕ) → afterBlocks f (afterBlocks f h a) (rest a ++ b) ≡ afterBlocks f h (a ++ b)
+unfolding afterBlocks
+afterBlocks-more f h a b =
     let n = length a / 64 in
     let k = length (rest a ++ b) / 64 in
     sym (ap (λ (j : ℕ). chain f j h (a ++ b)) (blocks-more a b) ∙ chain-add f n k h (a ++ b)
@@ -66,9 +66,9 @@ unfolding rest
 length-rest m = simp length-drop (omega arith)
 
 -- fewer than 64 bytes: no block, and all is left
-pub hashed-few : (f : List ℕ → List ℕ → List ℕ) (h m : List ℕ) → length m < 64 → hashed f h m ≡ h
-unfolding hashed chain
-hashed-few f h m l =
+pub afterBlocks-few : (f : List ℕ → List ℕ → List ℕ) (h m : List ℕ) → length m < 64 → afterBlocks f h m ≡ h
+unfolding afterBlocks chain
+afterBlocks-few f h m l =
     let e : length m / 64 ≡ 0 = omega arith in
     rw e refl
 

@@ -14,7 +14,7 @@ use Rattle.digest.specs.Lists.{at}
 use Rattle.digest.specs.Sha256.{constants, startWords}
 use Rattle.digest.specs.Constants.{RootBits, undivided, primesBelow}
 use Rattle.digest.specs.Theorems.{ConstantsRule, StartWordsRule}
-use Rattle.digest.proofs.Zeros.{and-left, and-right}
+use Rattle.digest.proofs.Tests.{and-left, and-right}
 
 -- the greatest whole number up to n whose e-th power is at most p
 wholeRoot : (n e p : ℕ) → ℕ

@@ -1,9 +1,12 @@
 pub mod Tables
 pub mod Rounds
+pub mod Tests
 pub mod Constants
 pub mod Chain
 pub mod Zeros
+pub mod Ending
 pub mod Steps
 pub mod Feeding
 pub mod Answers
 pub mod Calls
+pub mod Theorems

@@ -9,12 +9,13 @@ use borrow.Author.Tests.{eqb-true, leb-true, le-leb, lt-leb}
 use lib.Dec.{eqb, leb}
 use lib.ListN.{length, take, drop, replicate, length-append, length-drop, take-append-drop, drop-of-length-le}
 use lib.Seq.{paste, take-length, take-all, length-take-le}
-use Rattle.digest.specs.Message.{Algorithm, hashed, rest}
-use Rattle.digest.specs.Running.{waitingBytes, allZero, possible, limit, accepts, padded, fed}
+use Rattle.digest.specs.Message.{Algorithm, afterBlocks, rest, limit}
+use Rattle.digest.specs.Running.{waitingBytes, allZero, possible, accepts, zeroFilled, fed}
 use Rattle.digest.specs.Ready.{Ready}
 use Rattle.digest.specs.declared.running.Running.{Running}
-use Rattle.digest.proofs.Chain.{hashed-more, hashed-few, rest-more, rest-few, rest-one, length-rest}
-use Rattle.digest.proofs.Zeros.{and-left, and-right, zeros-after, drop-replicate}
+use Rattle.digest.proofs.Chain.{afterBlocks-more, afterBlocks-few, rest-more, rest-few, rest-one, length-rest}
+use Rattle.digest.proofs.Tests.{and-left, and-right}
+use Rattle.digest.proofs.Zeros.{zeros-after, drop-replicate}
 
 -- the test gives the facts
 pub ready : (s : Running) (n : ℕ) → accepts s n ≡ true → Ready s n
@@ -47,14 +48,14 @@ part-to-end m i = take-all (length m - i) (drop i m) (simp length-drop (omega ar
 
 -- what is left, in an array of zeros
 pub kept-rest : (m p : List ℕ) (from : ℕ) → from ≡ length m - length m % 64 → p ≡ take (length m - from) (drop from m)
-    → paste (replicate 64 0) 0 p (length p) ≡ padded (rest m)
+    → paste (replicate 64 0) 0 p (length p) ≡ zeroFilled (rest m)
 unfolding rest
 kept-rest m p from e q =
     let f : from ≡ 64 * (length m / 64) = omega arith in
     let n : 64 - (0 + length p) ≡ 64 - length p = omega arith in
     paste-whole (replicate 64 0) p 0
     ∙ ap (λ (x : List ℕ). p ++ x) (drop-replicate (0 + length p) 64 0 ∙ ap (λ (k : ℕ). replicate k 0) n)
-    ∙ ap padded (q ∙ part-to-end m from ∙ ap (λ (k : ℕ). drop k m) f)
+    ∙ ap zeroFilled (q ∙ part-to-end m from ∙ ap (λ (k : ℕ). drop k m) f)
 
 module _ (a : Algorithm) (s : Running) (m : List ℕ) (l : length (s .waiting) ≡ 64) where
   -- fewer bytes than there is room: they wait too
@@ -68,15 +69,15 @@ module _ (a : Algorithm) (s : Running) (m : List ℕ) (l : length (s .waiting) �
       let k : length (s .waiting) - (s .count + length m) ≡ 64 - length all = omega arith in
       let z : drop (s .count + length m) (s .waiting) ≡ replicate (64 - length all) 0 =
       zeros-after (s .waiting) (s .count) (length m) (r .empty) ∙ ap (λ (j : ℕ). replicate j 0) k in
-      let q : w ≡ padded (rest all) = e ∙ paste-whole (s .waiting) m (s .count) ∙ ap (λ (t : List ℕ). all ++ t) z ∙ ap padded re in
-      let hs : s .words ≡ hashed (a .block) (s .words) all = sym (hashed-few (a .block) (s .words) all (omega arith)) in
+      let q : w ≡ zeroFilled (rest all) = e ∙ paste-whole (s .waiting) m (s .count) ∙ ap (λ (t : List ℕ). all ++ t) z ∙ ap zeroFilled re in
+      let hs : s .words ≡ afterBlocks (a .block) (s .words) all = sym (afterBlocks-few (a .block) (s .words) all (omega arith)) in
       let cs : s .count + length m ≡ length (rest all) = sym n ∙ ap length re in
       λ i. record { words = hs i; waiting = q i; count = cs i; total = s .total + length m }
 
   -- a block is filled, whole blocks follow, and what is left waits
   pub fed-many : (full h₁ t h₂ w : List ℕ) → s .count < 64 → 64 ≤ s .count + length m
-      → full ≡ paste (s .waiting) (s .count) (take (64 - s .count) m) (length (take (64 - s .count) m)) → h₁ ≡ hashed (a .block) (s .words) full
-      → t ≡ drop (64 - s .count) m → h₂ ≡ hashed (a .block) h₁ t → w ≡ padded (rest t)
+      → full ≡ paste (s .waiting) (s .count) (take (64 - s .count) m) (length (take (64 - s .count) m)) → h₁ ≡ afterBlocks (a .block) (s .words) full
+      → t ≡ drop (64 - s .count) m → h₂ ≡ afterBlocks (a .block) h₁ t → w ≡ zeroFilled (rest t)
       → _≡_ {A = Running} (record { words = h₂; waiting = w; count = length t % 64; total = s .total + length m }) (fed a s m)
   unfolding fed
   fed-many full h₁ t h₂ w c h ef e₁ et e₂ ew =
@@ -92,10 +93,10 @@ module _ (a : Algorithm) (s : Running) (m : List ℕ) (l : length (s .waiting) �
       let joined : F ++ t ≡ all =
       ap (λ (x : List ℕ). F ++ x) et ∙ append-assoc (waitingBytes s) (take r m) (drop r m) ∙ ap (λ (x : List ℕ). waitingBytes s ++ x) (take-append-drop r m) in
       let r₁ : rest F ++ t ≡ t = ap (λ (x : List ℕ). x ++ t) (rest-one F nF) in
-      let hs : h₂ ≡ hashed f (s .words) all =
-      e₂ ∙ ap (λ (x : List ℕ). hashed f x t) (e₁ ∙ ap (hashed f (s .words)) fF)
-      ∙ ap (hashed f (hashed f (s .words) F)) (sym r₁) ∙ hashed-more f (s .words) F t ∙ ap (hashed f (s .words)) joined in
+      let hs : h₂ ≡ afterBlocks f (s .words) all =
+      e₂ ∙ ap (λ (x : List ℕ). afterBlocks f x t) (e₁ ∙ ap (afterBlocks f (s .words)) fF)
+      ∙ ap (afterBlocks f (afterBlocks f (s .words) F)) (sym r₁) ∙ afterBlocks-more f (s .words) F t ∙ ap (afterBlocks f (s .words)) joined in
       let rs : rest t ≡ rest all = ap rest (sym r₁) ∙ rest-more F t ∙ ap rest joined in
-      let ws : w ≡ padded (rest all) = ew ∙ ap padded rs in
+      let ws : w ≡ zeroFilled (rest all) = ew ∙ ap zeroFilled rs in
       let cs : length t % 64 ≡ length (rest all) = sym (length-rest t) ∙ ap length rs in
       λ i. record { words = hs i; waiting = ws i; count = cs i; total = s .total + length m }

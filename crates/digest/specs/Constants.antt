@@ -6,8 +6,8 @@ use mathlib.Core.List.{List, [], _∷_, _++_}
 use lib.Dec.{eqb, leb, ltb}
 use Rattle.answer.specs.If.{if_then_else_}
 
--- "the first thirty-two bits of the fractional parts of the [e-th] roots": with the root's whole part, x makes the greatest number whose e-th power is
--- at most p * 2 ^ (32 * e)
+-- 4.2.2, 5.3.3: x is the first 32 bits of the fractional part of the e-th root of p. With the root's whole part, whole * 2 ^ 32 + x is the greatest number whose e-th power
+-- is at most p * 2 ^ (32 * e).
 pub record RootBits (e p x : ℕ) : Type 0 where
   pub word : x < 2 ^ 32
   pub whole : ℕ
@@ -19,6 +19,7 @@ unfoldable pub undivided : (d n : ℕ) → Bool
 undivided zero n = true
 undivided (suc d) n = (ltb (suc d) 2 || not (eqb (n % suc d) 0)) && undivided d n
 
+-- n is a prime number
 abbrev pub isPrime : ℕ → Bool
 isPrime n = leb 2 n && undivided (n - 1) n
 

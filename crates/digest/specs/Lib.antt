@@ -1,9 +1,9 @@
 pub mod Lists
 pub mod Words
-pub mod Sha256
-pub mod Constants
 pub mod Padding
 pub mod Message
+pub mod Sha256
+pub mod Constants
 pub mod Running
 pub mod Theorems
 pub mod Ready

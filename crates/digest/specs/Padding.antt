@@ -1,4 +1,4 @@
--- The bytes of numbers and words, and the padding of a message to whole blocks of 64 bytes: FIPS 180-4, 3.1 and 5.1.1; RFC 1321, 3.1 and 3.2.
+-- The bytes of numbers and words, and the padding of a message to whole blocks of 64 bytes: FIPS 180-4, 3.1 and 5.1.1; RFC 1321, 2, 3.1, 3.2 and 3.5.
 -- Assumes nothing.
 use Prim.Native.Nat.{ℕ, _-_, _*_, _/_, _%_, _^_}
 use mathlib.Core.List.{List, _∷_, _++_}
@@ -23,7 +23,7 @@ bytesOf order width n = tabulate (byteOf order width n) width
 unfoldable pub wordBytes : ByteOrder → (size : ℕ) → List ℕ → List ℕ
 wordBytes order size words = tabulate (λ i. byteOf order 4 (at words (i / 4)) (i % 4)) size
 
--- 5.1.1: how many zero bytes follow the byte 80 after n bytes, the fewest after which 8 bytes fill the block (the theorem FewestZeros)
+-- 5.1.1: how many zero bytes follow the byte 0x80 after n bytes: the fewest after which 8 bytes fill the block (the theorem FewestZeros)
 abbrev pub zerosAfter : ℕ → ℕ
 zerosAfter n = (119 - n % 64) % 64
 

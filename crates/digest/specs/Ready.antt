@@ -1,9 +1,10 @@
--- No part of what a reader has to believe: what the feeding's and finishing's inner functions are given.
+-- For inner contracts only; a reader need not believe it.
 -- Assumes nothing.
-use Prim.Native.Nat.{ℕ, _+_, _%_, _^_, _<_}
+use Prim.Native.Nat.{ℕ, _+_, _%_, _≤_}
 use mathlib.Core.Path.{_≡_}
 use mathlib.Core.Bool.{true}
 use lib.ListN.{drop}
+use Rattle.digest.specs.Message.{limit}
 use Rattle.digest.specs.Running.{allZero}
 use Rattle.digest.specs.declared.running.Running.{Running}
 
@@ -11,4 +12,4 @@ use Rattle.digest.specs.declared.running.Running.{Running}
 pub record Ready (s : Running) (n : ℕ) : Type 0 where
   pub counted : s .count ≡ s .total % 64
   pub empty : allZero (drop (s .count) (s .waiting)) ≡ true
-  pub within : s .total + n < 2 ^ 61
+  pub within : s .total + n ≤ limit

@@ -1,4 +1,6 @@
 -- The running digest, over any algorithm: 01, "The digest", and number 25. Running digest, waiting and possible are terms of 01.
+-- `Running`, `Fed` and `Finished` are the structs of src/running.rt: "eight words, at most 63 waiting bytes and a total", the waiting bytes in an array of 64 with their count.
+-- An array of the code is the list of its numbers; the definitions hold for lists of any length.
 -- Assumes nothing.
 use Prim.Native.Nat.{ℕ, _+_, _-_, _%_, _^_}
 use mathlib.Core.Bool.{Bool, true, _&&_}
@@ -8,11 +10,10 @@ use lib.ListN.{length, take, drop, replicate}
 use Rattle.answer.specs.If.{if_then_else_}
 use Rattle.answer.specs.Answer.{accepted, refused}
 use Rattle.digest.specs.Padding.{wordBytes, padding}
-use Rattle.digest.specs.Message.{Algorithm, hashed, rest, digestOf}
+use Rattle.digest.specs.Message.{Algorithm, afterBlocks, rest, limit}
 use Rattle.digest.specs.declared.running.Running.{Running}
 use Rattle.digest.specs.declared.running.Fed.{Fed}
 use Rattle.digest.specs.declared.running.Finished.{Finished}
-use Rattle.digest.specs.declared.message.Hashed.{Hashed}
 
 -- the bytes that wait for the rest of their block
 abbrev pub waitingBytes : Running → List ℕ
@@ -27,31 +28,27 @@ allZero (x ∷ xs) = eqb x 0 && allZero xs
 unfoldable pub possible : Running → Bool
 possible s = eqb (s .count) (s .total % 64) && allZero (drop (s .count) (s .waiting))
 
--- 25: "total past 2^61 - 1 bytes"
-abbrev pub limit : ℕ
-limit = 2 ^ 61 - 1
-
--- 25 does not hold: it is possible, and its total is within the limit after n bytes more
+-- neither condition of 25 holds: it is possible, and its total is within the limit after n bytes more
 unfoldable pub accepts : Running → ℕ → Bool
 accepts s n = possible s && leb (s .total + n) limit
 
 -- waiting bytes in their array of 64, whose room past them is zero
-abbrev pub padded : List ℕ → List ℕ
-padded w = w ++ replicate (64 - length w) 0
+abbrev pub zeroFilled : List ℕ → List ℕ
+zeroFilled w = w ++ replicate (64 - length w) 0
 
 -- the running digest of no bytes
 unfoldable pub start : Algorithm → Running
-start a = record { words = a .start; waiting = padded []; count = 0; total = 0 }
+start a = record { words = a .start; waiting = zeroFilled []; count = 0; total = 0 }
 
 -- the running digest after the bytes m: the waiting bytes and m are taken in whole blocks, and the rest waits
 unfoldable pub fed : Algorithm → Running → List ℕ → Running
 fed a s m =
     let bytes = waitingBytes s ++ m in
-    record { words = hashed (a .block) (s .words) bytes; waiting = padded (rest bytes); count = length (rest bytes); total = s .total + length m }
+    record { words = afterBlocks (a .block) (s .words) bytes; waiting = zeroFilled (rest bytes); count = length (rest bytes); total = s .total + length m }
 
 -- the digest of all bytes so far: the waiting bytes and the padding of the total are taken in whole blocks
 unfoldable pub finished : Algorithm → Running → List ℕ
-finished a s = wordBytes (a .order) (a .size) (hashed (a .block) (s .words) (waitingBytes s ++ padding (a .order) (s .total)))
+finished a s = wordBytes (a .order) (a .size) (afterBlocks (a .block) (s .words) (waitingBytes s ++ padding (a .order) (s .total)))
 
 -- "each feeding takes a running digest and gives back the next; a refused one gives back what it got"
 unfoldable pub feeding : Algorithm → Running → List ℕ → Fed
@@ -59,14 +56,9 @@ feeding a s m =
     if accepts s (length m) then record { answer = accepted 0; running = fed a s m } else
     record { answer = refused 25 0; running = s }
 
--- "Finishing an impossible one answers 25 with 32 zero bytes", as many as the digest has. The running digest comes back as it was
+-- "Finishing an impossible one answers 25 with 32 zero bytes", as many as the digest has, and so does finishing one whose total is past the limit. The running
+-- digest comes back as it was
 unfoldable pub finishing : Algorithm → Running → Finished
 finishing a s =
     if accepts s 0 then record { answer = accepted 0; digest = finished a s; running = s } else
     record { answer = refused 25 0; digest = replicate (a .size) 0; running = s }
-
--- the digest of a whole message, or 25 where it is longer than the limit
-unfoldable pub hashing : Algorithm → List ℕ → Hashed
-hashing a m =
-    if leb (length m) limit then record { answer = accepted 0; digest = digestOf a m } else
-    record { answer = refused 25 0; digest = replicate (a .size) 0 }

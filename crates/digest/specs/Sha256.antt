@@ -1,10 +1,13 @@
--- SHA-256's constants and what it makes of one block: FIPS 180-4, 4.2.2, 5.3.3 and 6.2.2. A block is 64 bytes, a hash value eight words.
+-- SHA-256: FIPS 180-4, 4.2.2, 5.3.3 and 6.2. A block is 64 bytes, a hash value eight words. The sum of FIPS 180-4 is modulo 2 ^ 32 (2.2.2); here the sum is that of numbers, with
+-- one remainder. `Working` is the struct of src/sha256.rt: the working variables a to h.
 -- Assumes nothing.
 use Prim.Native.Nat.{ℕ, zero, suc, _+_, _-_, _*_, _%_, _^_}
 use mathlib.Core.List.{List, [], _∷_, _++_}
 use lib.ListN.{length}
 use Rattle.digest.specs.Lists.{at, tabulate}
 use Rattle.digest.specs.Words.{ch, maj, bigSigma0, bigSigma1, smallSigma0, smallSigma1}
+use Rattle.digest.specs.Padding.{bigEndian}
+use Rattle.digest.specs.Message.{Algorithm}
 use Rattle.digest.specs.declared.sha256.Working.{Working}
 
 -- 4.2.2: the 64 constants K (their rule: specs/Constants)
@@ -42,8 +45,8 @@ unfoldable pub schedule : List ℕ → List ℕ
 schedule block = extended 48 (tabulate (wordOf block) 16)
 
 -- 6.2.2, step 2: the working variables a to h from the hash value
-unfoldable pub opened : List ℕ → Working
-opened h = record { a = at h 0; b = at h 1; c = at h 2; d = at h 3; e = at h 4; f = at h 5; g = at h 6; h = at h 7 }
+unfoldable pub initialized : List ℕ → Working
+initialized h = record { a = at h 0; b = at h 1; c = at h 2; d = at h 3; e = at h 4; f = at h 5; g = at h 6; h = at h 7 }
 
 -- 6.2.2, step 3: one round, with its constant k and its word w
 unfoldable pub round : (k w : ℕ) → Working → Working
@@ -65,4 +68,8 @@ added v h =
 
 -- 6.2.2: the hash value after a block
 unfoldable pub compressed : List ℕ → List ℕ → List ℕ
-compressed h block = added (rounds 64 (schedule block) (opened h)) h
+compressed h block = added (rounds 64 (schedule block) (initialized h)) h
+
+-- 6.2: SHA-256
+abbrev pub sha256 : Algorithm
+sha256 = record { start = startWords; block = compressed; order = bigEndian; size = 32 }

@@ -1,7 +1,7 @@
--- What holds of the definitions, stated here and proved in proofs/. 01, "How much the promises say": "the digest after each feeding equals FIPS 180-4
--- over all bytes so far".
+-- What holds of the definitions, stated here and proved in proofs/Theorems. 01, "How much the promises say": "the digest after each feeding equals FIPS 180-4 over all
+-- bytes so far".
 -- Assumes nothing.
-use Prim.Native.Nat.{ℕ, _+_, _%_, _<_, _≤_}
+use Prim.Native.Nat.{ℕ, _+_, _*_, _%_, _<_, _≤_}
 use mathlib.Core.Path.{_≡_}
 use mathlib.Core.Bool.{true}
 use mathlib.Core.List.{List, [], _∷_, _++_, flatten}
@@ -11,8 +11,8 @@ use Rattle.digest.specs.Lists.{at}
 use Rattle.digest.specs.Sha256.{constants, startWords}
 use Rattle.digest.specs.Constants.{RootBits, primesBelow}
 use Rattle.digest.specs.Padding.{zerosAfter}
-use Rattle.digest.specs.Message.{Algorithm, digestOf}
-use Rattle.digest.specs.Running.{limit, accepts, start, fed, finished, feeding, finishing}
+use Rattle.digest.specs.Message.{Algorithm, digestOf, limit}
+use Rattle.digest.specs.Running.{accepts, start, fed, finished, feeding, finishing}
 use Rattle.digest.specs.declared.running.Running.{Running}
 
 -- FIPS 180-4, 4.2.2: "the cube roots of the first sixty-four prime numbers"
@@ -27,10 +27,10 @@ pub record StartWordsRule : Type 0 where
   pub table : length startWords ≡ 8
   pub rule : (i : ℕ) → i < 8 → RootBits 2 (at (primesBelow 20) i) (at startWords i)
 
--- FIPS 180-4, 5.1.1: "the smallest, non-negative solution" k, here in bytes after the byte 80; for every length n of a message
+-- FIPS 180-4, 5.1.1: the number k of zero bits after the bit 1 is "the smallest, non-negative solution"; seven of them stand in the byte 0x80
 pub record FewestZeros (n : ℕ) : Type 0 where
-  pub solves : (n + 1 + zerosAfter n) % 64 ≡ 56
-  pub smallest : (k : ℕ) → (n + 1 + k) % 64 ≡ 56 → zerosAfter n ≤ k
+  pub solves : (8 * n + 1 + (7 + 8 * zerosAfter n)) % 512 ≡ 448
+  pub smallest : (k : ℕ) → (8 * n + 1 + k) % 512 ≡ 448 → 7 + 8 * zerosAfter n ≤ k
 
 -- two feedings are one feeding of all their bytes, from any running digest
 abbrev pub TwoFeedings : Type 0
@@ -40,23 +40,34 @@ TwoFeedings = (a : Algorithm) (s : Running) (m n : List ℕ) → fed a (fed a s 
 abbrev pub DigestSoFar : Type 0
 DigestSoFar = (a : Algorithm) (m : List ℕ) → finished a (fed a (start a) m) ≡ digestOf a m
 
+-- ---- of the calls: `feeding` and `finishing` are what `feed` and `finish` return, by their contracts
+
 -- the running digest after calls of feed, one for each part
 unfoldable pub afterCalls : Algorithm → Running → List (List ℕ) → Running
 afterCalls a s [] = s
 afterCalls a s (m ∷ parts) = afterCalls a (feeding a s m .running) parts
 
--- After any calls of feed from the start, in which all bytes are within the limit: a call of feed that stays within it is accepted, and a call of finish is
--- accepted and gives the digest of all bytes so far. For every algorithm and all parts.
-pub record Calls (a : Algorithm) (parts : List (List ℕ)) : Type 0 where
-  pub feed-answer : (m : List ℕ) → length (flatten parts ++ m) ≤ limit → feeding a (afterCalls a (start a) parts) m .answer ≡ accepted 0
-  pub finish-answer : length (flatten parts) ≤ limit → finishing a (afterCalls a (start a) parts) .answer ≡ accepted 0
-  pub finish-digest : length (flatten parts) ≤ limit → finishing a (afterCalls a (start a) parts) .digest ≡ digestOf a (flatten parts)
-
--- The same from any running digest that takes all the bytes, whatever its words are: "any eight words will do".
+-- After calls of feed from any running digest that takes all their bytes, whatever its words are ("any eight words will do"): a call of feed that it takes too is accepted, and a call
+-- of finish is accepted and gives the digest after feeding all bytes at once.
 pub record CallsFrom (a : Algorithm) (s : Running) (parts : List (List ℕ)) : Type 0 where
   pub state : afterCalls a s parts ≡ fed a s (flatten parts)
+  pub feed-answer : (m : List ℕ) → accepts s (length (flatten parts ++ m)) ≡ true → feeding a (afterCalls a s parts) m .answer ≡ accepted 0
   pub finish-answer : finishing a (afterCalls a s parts) .answer ≡ accepted 0
   pub finish-digest : finishing a (afterCalls a s parts) .digest ≡ finished a (fed a s (flatten parts))
 
-abbrev pub AnyStart : Type 0
-AnyStart = (a : Algorithm) (s : Running) (parts : List (List ℕ)) → length (s .waiting) ≡ 64 → accepts s (length (flatten parts)) ≡ true → CallsFrom a s parts
+-- After calls of feed from the start, whose bytes are within the limit: the same, and the digest is that of FIPS 180-4 over all bytes so far.
+pub record CallsFromStart (a : Algorithm) (parts : List (List ℕ)) : Type 0 where
+  pub feed-answer : (m : List ℕ) → length (flatten parts ++ m) ≤ limit → feeding a (afterCalls a (start a) parts) m .answer ≡ accepted 0
+  pub finish-answer : finishing a (afterCalls a (start a) parts) .answer ≡ accepted 0
+  pub finish-digest : finishing a (afterCalls a (start a) parts) .digest ≡ digestOf a (flatten parts)
+
+-- All of them. The waiting bytes of the code stand in an array of 64, which a list does not say by itself.
+pub record Theorems : Type 0 where
+  pub constants-rule : ConstantsRule
+  pub start-words-rule : StartWordsRule
+  pub fewest-zeros : (n : ℕ) → FewestZeros n
+  pub two-feedings : TwoFeedings
+  pub digest-so-far : DigestSoFar
+  pub calls : (a : Algorithm) (parts : List (List ℕ)) → length (flatten parts) ≤ limit → CallsFromStart a parts
+  pub calls-from : (a : Algorithm) (s : Running) (parts : List (List ℕ)) → length (s .waiting) ≡ 64 → accepts s (length (flatten parts)) ≡ true
+      → CallsFrom a s parts

@@ -1,9 +1,9 @@
--- Operations on words of 32 bits: FIPS 180-4, 3.2 and 4.1.2. A word is a number below 2 ^ 32.
+-- Operations on words of 32 bits: FIPS 180-4, 2.2.2, 3.2 and 4.1.2. A word is a number below 2 ^ 32.
 -- Assumes nothing.
 use Prim.Native.Nat.{ℕ, _-_, _*_, _/_, _%_, _^_}
 use lib.Bits.{bitAnd, bitOr, bitXor}
 
--- 3.2: x << n, whose bits above the word are lost
+-- 2.2.2: x << n, without the bits that leave the word
 abbrev pub shl : ℕ → ℕ → ℕ
 shl n x = x * 2 ^ n % 2 ^ 32
 
@@ -15,7 +15,7 @@ shr n x = x / 2 ^ n
 unfoldable pub rotr : ℕ → ℕ → ℕ
 rotr n x = bitOr (shr n x) (shl (32 - n) x)
 
--- 2.2.2: the complement of x
+-- 2.2.2: ¬x, all 32 bits of a word turned
 abbrev pub complement : ℕ → ℕ
 complement x = 2 ^ 32 - 1 - x
 

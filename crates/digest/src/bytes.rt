@@ -1,6 +1,6 @@
 // Bytes copied, and numbers and words as bytes with the high byte first.
 ghost use mathlib.Core.Path.{_≡_};
-ghost use Prim.Native.Nat.{_+_, _/_, _%_, _<_, _≤_};
+ghost use Prim.Native.Nat.{_+_, _*_, _^_, _<_, _≤_};
 ghost use lib.ListN.{length};
 ghost use lib.Seq.{paste};
 ghost use Rattle.digest.specs.Lists.{at};
@@ -18,18 +18,25 @@ pub(crate) fn put(to: &mut [u8], at: usize, from: &[u8])
     }
 }
 
+// The word of four bytes.
+pub(crate) fn word(a: u8, b: u8, c: u8, d: u8) -> u32
+    ensures { λ r. ⌜ r ≡ a * 2 ^ 24 + b * 2 ^ 16 + c * 2 ^ 8 + d ⌝ }
+{
+    (a as u32) * 16777216 + (b as u32) * 65536 + (c as u32) * 256 + (d as u32)
+}
+
 // A number's eight bytes.
 pub(crate) fn number_bytes(n: u64) -> [u8; 8]
     ensures { λ r. ⌜ r ≡ Spec.bytesOf Spec.bigEndian 8 n ⌝ }
 {
     [
-        (n / 72057594037927936 % 256) as u8,
-        (n / 281474976710656 % 256) as u8,
-        (n / 1099511627776 % 256) as u8,
-        (n / 4294967296 % 256) as u8,
-        (n / 16777216 % 256) as u8,
-        (n / 65536 % 256) as u8,
-        (n / 256 % 256) as u8,
+        ((n >> 56) % 256) as u8,
+        ((n >> 48) % 256) as u8,
+        ((n >> 40) % 256) as u8,
+        ((n >> 32) % 256) as u8,
+        ((n >> 24) % 256) as u8,
+        ((n >> 16) % 256) as u8,
+        ((n >> 8) % 256) as u8,
         (n % 256) as u8,
     ]
 }

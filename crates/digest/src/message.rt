@@ -2,8 +2,8 @@
 use crate::running::Running;
 use answer::Answer;
 ghost use mathlib.Core.Path.{_≡_};
+ghost use Rattle.digest.specs.Sha256 as Sha256;
 ghost use Rattle.digest.specs.Message as Message;
-ghost use Rattle.digest.specs.Running as Spec;
 
 // The answer, and the digest of a whole message.
 pub struct Hashed {
@@ -13,13 +13,13 @@ pub struct Hashed {
 
 // The digest of a whole message. A refusal, 25, has 32 zero bytes.
 pub fn sha256(message: &[u8]) -> Hashed
-    ensures { λ r. ⌜ r ≡ Spec.hashing Message.sha256 (now (message .entry)) ⌝ }
+    ensures { λ r. ⌜ r ≡ Message.hashing Sha256.sha256 (now (message .entry)) ⌝ }
 {
     let fed = Running::start().feed(message);
-    let refusal = fed.answer;
-    if refusal.number != 0 {
+    let taken = fed.answer;
+    if taken.number != 0 {
         return Hashed {
-            answer: refusal,
+            answer: taken,
             digest: [0u8; 32],
         };
     }

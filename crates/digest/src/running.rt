@@ -8,7 +8,7 @@ ghost use Prim.Native.Nat.{_+_, _≤_};
 ghost use lib.ListN.{length, drop};
 ghost use lib.Seq.{paste};
 ghost use Rattle.digest.specs.Message.{rest};
-ghost use Rattle.digest.specs.Message as Message;
+ghost use Rattle.digest.specs.Sha256 as Sha256;
 ghost use Rattle.digest.specs.Running as Spec;
 ghost use Rattle.digest.specs.Ready.{Ready};
 
@@ -63,7 +63,7 @@ fn filled(waiting: [u8; 64], count: usize, s: &[u8]) -> [u8; 64]
 
 // The bytes of s past its whole blocks, as they wait.
 fn kept(s: &[u8]) -> [u8; 64]
-    ensures { λ r. ⌜ r ≡ Spec.padded (rest (now (s .entry))) ⌝ }
+    ensures { λ r. ⌜ r ≡ Spec.zeroFilled (rest (now (s .entry))) ⌝ }
 {
     let from = s.len() - s.len() % 64;
     filled([0u8; 64], 0, &s[from..])
@@ -72,7 +72,7 @@ fn kept(s: &[u8]) -> [u8; 64]
 impl Running {
     // The running digest of no bytes.
     pub fn start() -> Self
-        ensures { λ r. ⌜ r ≡ Spec.start Message.sha256 ⌝ }
+        ensures { λ r. ⌜ r ≡ Spec.start Sha256.sha256 ⌝ }
     {
         Self {
             words: sha256::START,
@@ -82,7 +82,7 @@ impl Running {
         }
     }
 
-    // Whether it is possible.
+    // Whether the waiting count and the room past the waiting bytes are right.
     fn possible(self) -> bool
         ensures { λ r. ⌜ r ≡ Spec.possible self ⌝ }
     {
@@ -112,7 +112,7 @@ impl Running {
     // The running digest after s.
     fn fed(self, s: &[u8]) -> Self
         requires { ⌜ Ready self (length (now s)) ⌝ }
-        ensures { λ r. ⌜ r ≡ Spec.fed Message.sha256 self (now (s .entry)) ⌝ }
+        ensures { λ r. ⌜ r ≡ Spec.fed Sha256.sha256 self (now (s .entry)) ⌝ }
     {
         let count = self.count;
         let words = self.words;
@@ -145,7 +145,7 @@ impl Running {
 
     // Feeds s. A refusal, 25, hands back what it got.
     pub fn feed(self, s: &[u8]) -> Fed
-        ensures { λ r. ⌜ r ≡ Spec.feeding Message.sha256 self (now (s .entry)) ⌝ }
+        ensures { λ r. ⌜ r ≡ Spec.feeding Sha256.sha256 self (now (s .entry)) ⌝ }
     {
         if self.accepts(s.len()) {
             let next = self.fed(s);
@@ -164,13 +164,13 @@ impl Running {
     // The digest of all bytes so far.
     fn finished(self) -> [u8; 32]
         requires { ⌜ Ready self 0 ⌝ }
-        ensures { λ r. ⌜ r ≡ Spec.finished Message.sha256 self ⌝ }
+        ensures { λ r. ⌜ r ≡ Spec.finished Sha256.sha256 self ⌝ }
     {
         let count = self.count;
         let words = self.words;
         let waiting = self.waiting;
         let bits = bytes::number_bytes(8 * self.total);
-        let n: usize = if count < 56 { 64 } else { 128 };
+        let n = padding::ending_size(count);
         let end = padding::ending(waiting, count, bits, n);
         let h = sha256::blocks(words, &end[..n]);
         bytes::word_bytes(h)
@@ -178,7 +178,7 @@ impl Running {
 
     // The digest of all bytes so far. A refusal, 25, has 32 zero bytes. The running digest comes back as it was, and can be fed on.
     pub fn finish(self) -> Finished
-        ensures { λ r. ⌜ r ≡ Spec.finishing Message.sha256 self ⌝ }
+        ensures { λ r. ⌜ r ≡ Spec.finishing Sha256.sha256 self ⌝ }
     {
         if self.accepts(0) {
             let digest = self.finished();

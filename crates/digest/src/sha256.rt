@@ -1,11 +1,12 @@
 // What SHA-256 makes of the blocks of a message: FIPS 180-4, 6.2.2.
+use crate::bytes;
 use crate::words;
 use std::num::wrapping_add_u32;
 ghost use mathlib.Core.Path.{_≡_};
-ghost use Prim.Native.Nat.{_+_, _*_, _^_, _<_, _≤_};
+ghost use Prim.Native.Nat.{_<_, _≤_};
 ghost use lib.ListN.{length, take};
 ghost use Rattle.digest.specs.Lists.{tabulate};
-ghost use Rattle.digest.specs.Message.{hashed};
+ghost use Rattle.digest.specs.Message.{afterBlocks};
 ghost use Rattle.digest.specs.Sha256 as Spec;
 
 // 4.2.2: the constants of the rounds.
@@ -100,20 +101,13 @@ pub(crate) struct Working {
     pub h: u32,
 }
 
-// The word of four bytes, high byte first.
-fn big_endian(a: u8, b: u8, c: u8, d: u8) -> u32
-    ensures { λ r. ⌜ r ≡ a * 2 ^ 24 + b * 2 ^ 16 + c * 2 ^ 8 + d ⌝ }
-{
-    (a as u32) * 16777216 + (b as u32) * 65536 + (c as u32) * 256 + (d as u32)
-}
-
 // Word i of a block.
 fn word(block: &[u8], i: usize) -> u32
     requires { ⌜ (i < 16) × (length (now block) ≡ 64) ⌝ }
     ensures { λ r. ⌜ r ≡ Spec.wordOf (now (block .entry)) i ⌝ }
 {
     let at = 4 * i;
-    big_endian(block[at], block[at + 1], block[at + 2], block[at + 3])
+    bytes::word(block[at], block[at + 1], block[at + 2], block[at + 3])
 }
 
 // The sixteen words of a block, and room for those after them.
@@ -160,8 +154,8 @@ fn schedule(block: &[u8]) -> [u32; 64]
 }
 
 // The working variables from the hash value.
-fn opened(h: [u32; 8]) -> Working
-    ensures { λ r. ⌜ r ≡ Spec.opened h ⌝ }
+fn initialized(h: [u32; 8]) -> Working
+    ensures { λ r. ⌜ r ≡ Spec.initialized h ⌝ }
 {
     Working {
         a: h[0],
@@ -241,13 +235,13 @@ fn compressed(h: [u32; 8], k: &[u32; 64], block: &[u8]) -> [u32; 8]
     ensures { λ r. ⌜ r ≡ Spec.compressed h (now (block .entry)) ⌝ }
 {
     let w = schedule(block);
-    let v = rounds(opened(h), k, &w);
+    let v = rounds(initialized(h), k, &w);
     added(v, h)
 }
 
 // The hash value after all whole blocks of s. The table of constants is lent once for all of them: `&K` copies it.
 pub(crate) fn blocks(start: [u32; 8], s: &[u8]) -> [u32; 8]
-    ensures { λ r. ⌜ r ≡ hashed Spec.compressed start (now (s .entry)) ⌝ }
+    ensures { λ r. ⌜ r ≡ afterBlocks Spec.compressed start (now (s .entry)) ⌝ }
 {
     let k = &K;
     let mut h = start;

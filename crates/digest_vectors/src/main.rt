@@ -1,10 +1,10 @@
 // Runs published vectors of SHA-256, whole and in parts, and every kind of refusal with its accepted neighbour.
-mod limits;
 mod parts;
 mod print;
+mod refusals;
 mod vectors;
 
 fn main() {
     vectors::run();
-    limits::run();
+    refusals::run();
 }

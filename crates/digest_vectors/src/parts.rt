@@ -2,15 +2,13 @@
 use digest::message::Hashed;
 use digest::running::Running;
 ghost use mathlib.Core.Path.{_≡_};
-ghost use Prim.Native.Nat.{_<_};
-ghost use Rattle.digest.specs.Message.{sha256};
-ghost use Rattle.digest.specs.Running.{hashing};
-ghost use Rattle.digest_vectors.specs.Parts.{Part};
+ghost use Prim.Native.Nat.{_<_, min};
+ghost use Rattle.digest.specs.Sha256.{sha256};
+ghost use Rattle.digest.specs.Message.{hashing};
 
 // How many bytes the next part has, where `left` bytes are left.
 fn next_part(left: usize, part: usize) -> usize
-    requires { ⌜ (0 < left) × (0 < part) ⌝ }
-    ensures { λ r. ⌜ Part left r ⌝ }
+    ensures { λ r. ⌜ r ≡ min left part ⌝ }
 {
     if left < part {
         return left;

@@ -2,9 +2,9 @@
 use answer::Answer;
 use libc::STDOUT_FILENO;
 
-// Words, each with a space behind it.
-pub(crate) fn word(text: &[u8]) {
-    io::write_all(STDOUT_FILENO, text);
+// A text or a number, with a space behind it.
+pub(crate) fn text(t: &[u8]) {
+    io::write_all(STDOUT_FILENO, t);
     io::write_all(STDOUT_FILENO, b" ");
 }
 

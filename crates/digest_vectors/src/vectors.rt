@@ -1,4 +1,4 @@
-// Published vectors: FIPS 180-4's examples, and messages around the block's and the padding's edges.
+// Published vectors: NIST's examples for SHA-256, and messages around the block's and the padding's edges.
 use crate::parts;
 use crate::print;
 use digest::message;
@@ -14,7 +14,7 @@ const LENGTHS: [usize; 13] = [1, 54, 55, 56, 57, 63, 64, 65, 119, 120, 127, 128,
 fn line(name: &[u8], length: usize, part: usize, hashed: Hashed) {
     let answer = hashed.answer;
     let digest = hashed.digest;
-    print::word(name);
+    print::text(name);
     print::decimal(length);
     print::decimal(part);
     print::answer(answer);

@@ -1,7 +1,7 @@
 use native.Mathlib.Omega.{arith}
 use mathlib.Core.Path.{_≡_, ap, _∙_}
 use mathlib.Core.List.{List, []}
-use Rattle.digest.specs.Message.{sha256}
+use Rattle.digest.specs.Sha256.{sha256}
 use Rattle.digest.specs.Running.{start, fed, feeding, finishing}
 use Rattle.digest.specs.declared.running.Running.{Running}
 use Rattle.digest.specs.declared.running.Fed.{Fed}

@@ -2,7 +2,7 @@ use native.Mathlib.Omega.{arith}
 use mathlib.Core.Path.{_≡_, sym}
 use lib.ListN.{length, take, length-take, length-set}
 use lib.Seq.{length-take-le}
-use Rattle.digest.proofs.Zeros.{ending-stores}
+use Rattle.digest.proofs.Ending.{ending-stores}
 use borrow.Author.Needs.{needs}
 use Rattle.digest.proofs.padding.ending.Statement.{statement}
 use Rattle.digest.proofs.padding.ending.Tie as tie

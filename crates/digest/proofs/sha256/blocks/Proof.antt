@@ -3,7 +3,7 @@ use Prim.Native.Nat.{_/_, _%_}
 use mathlib.Core.Path.{_≡_, refl}
 use lib.ListN.{length-take, length-drop}
 use Rattle.digest.specs.Sha256.{constants, compressed}
-use Rattle.digest.specs.Message.{chain, hashed}
+use Rattle.digest.specs.Message.{chain, afterBlocks}
 use Rattle.digest.proofs.Chain.{chain-next}
 use borrow.Author.Needs.{needs}
 use Prim.Native.Nat.{_-_, _≤_}
@@ -52,7 +52,7 @@ loop-again c =
     (search needs, search needs, chain-next compressed _ _ _ _ (loop .at) (loop .inv .1) (loop .inv .2) (c .compressed .ensures))
 
 returns : tie.Need-returns Inv-loop μ-loop
-unfolding hashed
+unfolding afterBlocks
 returns c =
     let e : c .before .loop .at / 64 ≡ length (c .before .before .before .before .args .s .now) / 64 = omega arith in
     rw e at (c .before .loop .inv .2)

@@ -6,8 +6,8 @@ use Rattle.digest.proofs.sha256.compressed.Tie as tie
 schedule-requires : tie.Need-schedule-requires
 schedule-requires c κs = search needs
 
-opened-requires : tie.Need-opened-requires
-opened-requires c κs = search needs
+initialized-requires : tie.Need-initialized-requires
+initialized-requires c κs = search needs
 
 rounds-requires : tie.Need-rounds-requires
 rounds-requires c κs = search needs
@@ -21,4 +21,4 @@ returns c = cc
 
 pub compressed-spec : {M : Type 1} → statement M
 compressed-spec =
-    tie.close (tie.spec schedule-requires opened-requires rounds-requires added-requires returns)
+    tie.close (tie.spec schedule-requires initialized-requires rounds-requires added-requires returns)

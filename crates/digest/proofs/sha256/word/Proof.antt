@@ -1,4 +1,5 @@
 use Rattle.digest.specs.Sha256.{wordOf}
+use Prim.Native.Nat.{ℕ, _+_, _-_, _*_, _<_, _≤_}
 use borrow.Author.Needs.{needs}
 use Rattle.digest.proofs.sha256.word.Statement.{statement}
 use Rattle.digest.proofs.sha256.word.Tie as tie
@@ -6,45 +7,45 @@ use Rattle.digest.proofs.sha256.word.Tie as tie
 mul-at : tie.Need-mul-at
 mul-at c = search needs
 
-shared-slice-read-big-endian : tie.Need-shared-slice-read-big-endian
-shared-slice-read-big-endian c = search needs
+shared-slice-read-word : tie.Need-shared-slice-read-word
+shared-slice-read-word c = search needs
 
-add-big-endian : tie.Need-add-big-endian
-add-big-endian c = search needs
+add-word : tie.Need-add-word
+add-word c = search needs
 
-shared-slice-read-big-endian-2 : tie.Need-shared-slice-read-big-endian-2
-shared-slice-read-big-endian-2 c = search needs
+shared-slice-read-word-2 : tie.Need-shared-slice-read-word-2
+shared-slice-read-word-2 c = search needs
 
-add-big-endian-2 : tie.Need-add-big-endian-2
-add-big-endian-2 c = search needs
+add-word-2 : tie.Need-add-word-2
+add-word-2 c = search needs
 
-shared-slice-read-big-endian-3 : tie.Need-shared-slice-read-big-endian-3
-shared-slice-read-big-endian-3 c = search needs
+shared-slice-read-word-3 : tie.Need-shared-slice-read-word-3
+shared-slice-read-word-3 c = search needs
 
-add-big-endian-3 : tie.Need-add-big-endian-3
-add-big-endian-3 c = search needs
+add-word-3 : tie.Need-add-word-3
+add-word-3 c = search needs
 
-shared-slice-read-big-endian-4 : tie.Need-shared-slice-read-big-endian-4
-shared-slice-read-big-endian-4 c = search needs
+shared-slice-read-word-4 : tie.Need-shared-slice-read-word-4
+shared-slice-read-word-4 c = search needs
 
-big-endian-requires : tie.Need-big-endian-requires
-big-endian-requires c κs = search needs
+word-requires : tie.Need-word-requires
+word-requires c κs = search needs
 
 returns : tie.Need-returns
 unfolding wordOf
-returns c = c .big-endian .ensures
+returns c = c .word .ensures
 
 pub word-spec : {M : Type 1} → statement M
 word-spec =
     tie.close
     (tie.spec
     mul-at
-    shared-slice-read-big-endian
-    add-big-endian
-    shared-slice-read-big-endian-2
-    add-big-endian-2
-    shared-slice-read-big-endian-3
-    add-big-endian-3
-    shared-slice-read-big-endian-4
-    big-endian-requires
+    shared-slice-read-word
+    add-word
+    shared-slice-read-word-2
+    add-word-2
+    shared-slice-read-word-3
+    add-word-3
+    shared-slice-read-word-4
+    word-requires
     returns)

@@ -1,3 +1,4 @@
+use native.Mathlib.Omega.{arith}
 use Rattle.digest_vectors.proofs.SoFar.{SoFar, so-far-start, so-far-next, so-far-refused, so-far-all}
 use borrow.Author.Needs.{needs}
 use Prim.Native.Nat.{_-_}
@@ -41,7 +42,7 @@ feed-requires c κs = search needs
 returns : tie.Need-returns Inv-loop μ-loop
 returns c =
     let at-part = c .before .before .before .before .before in
-    so-far-refused _ _ _ _ _ (at-part .before .before .loop .inv) (at-part .next-part .ensures) (c .before .before .before .feed .ensures) (c .if1 .taken)
+    so-far-refused _ _ _ _ _ (at-part .before .before .loop .inv) (omega (arith, at-part .next-part .ensures)) (c .before .before .before .feed .ensures) (c .if1 .taken)
 
 loop-less : tie.Need-loop-less Inv-loop μ-loop
 loop-less c = search needs
@@ -49,7 +50,7 @@ loop-less c = search needs
 loop-again : tie.Need-loop-again Inv-loop μ-loop
 loop-again c =
     let at-part = c .before .before .before .before .before .before in
-    so-far-next _ _ _ _ _ (at-part .before .before .loop .inv) (at-part .next-part .ensures) (c .before .before .before .before .feed .ensures) (c .before .if1 .left)
+    so-far-next _ _ _ _ _ (at-part .before .before .loop .inv) (omega (arith, at-part .next-part .ensures)) (c .before .before .before .before .feed .ensures) (c .before .if1 .left)
 
 finish-requires : tie.Need-finish-requires Inv-loop μ-loop
 finish-requires c κs = search needs

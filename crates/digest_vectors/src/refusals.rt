@@ -56,9 +56,9 @@ fn same(a: Running, b: Running) -> bool {
 
 fn kept(a: Running, b: Running) {
     if same(a, b) {
-        print::word(b"kept");
+        print::text(b"kept");
     } else {
-        print::word(b"changed");
+        print::text(b"changed");
     }
 }
 
@@ -67,8 +67,8 @@ fn run_finish(name: &[u8], s: Running) {
     let answer = done.answer;
     let digest = done.digest;
     let back = done.running;
-    print::word(name);
-    print::word(b"finish");
+    print::text(name);
+    print::text(b"finish");
     print::answer(answer);
     kept(s, back);
     print::digest(digest);
@@ -81,8 +81,8 @@ fn run_feed(name: &[u8], s: Running, bytes: &[u8]) {
     let next = fed.running;
     let done = next.finish();
     let digest = done.digest;
-    print::word(name);
-    print::word(b"feed");
+    print::text(name);
+    print::text(b"feed");
     print::decimal(bytes.len());
     print::answer(answer);
     kept(s, next);

@@ -2,8 +2,8 @@ use mathlib.Core.Path.{_≡_}
 use borrow.Author.Needs.{needs}
 use Prim.Native.Nat.{_-_}
 use lib.ListN.{length}
-use Rattle.digest_vectors.proofs.limits.state.Statement.{statement}
-use Rattle.digest_vectors.proofs.limits.state.Tie as tie
+use Rattle.digest_vectors.proofs.refusals.state.Statement.{statement}
+use Rattle.digest_vectors.proofs.refusals.state.Tie as tie
 
 abbrev Inv-loop : tie.InvT-loop
 Inv-loop count after total waiting₀ i₀ waiting i = length waiting ≡ 64

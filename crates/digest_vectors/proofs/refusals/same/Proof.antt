@@ -2,8 +2,8 @@ use mathlib.Core.Path.{_≡_}
 use borrow.Author.Needs.{needs}
 use Prim.Native.Nat.{_-_}
 use lib.ListN.{length}
-use Rattle.digest_vectors.proofs.limits.same.Statement.{statement}
-use Rattle.digest_vectors.proofs.limits.same.Tie as tie
+use Rattle.digest_vectors.proofs.refusals.same.Statement.{statement}
+use Rattle.digest_vectors.proofs.refusals.same.Tie as tie
 
 abbrev Inv-loop : tie.InvT-loop
 Inv-loop a b u v x y i₀ i = (length u ≡ 8) × (length v ≡ 8) × (length x ≡ 64) × (length y ≡ 64)

@@ -1,8 +1,8 @@
 use mathlib.Core.Path.{refl}
-use Rattle.digest.specs.Sha256.{opened}
+use Rattle.digest.specs.Sha256.{initialized}
 use borrow.Author.Needs.{needs}
-use Rattle.digest.proofs.sha256.opened.Statement.{statement}
-use Rattle.digest.proofs.sha256.opened.Tie as tie
+use Rattle.digest.proofs.sha256.initialized.Statement.{statement}
+use Rattle.digest.proofs.sha256.initialized.Tie as tie
 
 array-read-t5 : tie.Need-array-read-t5
 array-read-t5 c = search needs
@@ -29,11 +29,11 @@ array-read-t26 : tie.Need-array-read-t26
 array-read-t26 c = search needs
 
 returns : tie.Need-returns
-unfolding opened
+unfolding initialized
 returns c = refl
 
-pub opened-spec : {M : Type 1} → statement M
-opened-spec =
+pub initialized-spec : {M : Type 1} → statement M
+initialized-spec =
     tie.close
     (tie.spec
     array-read-t5
