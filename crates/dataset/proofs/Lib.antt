@@ -1,0 +1,4 @@
+pub mod Checks
+pub mod Bounds
+pub mod Unfolding
+pub mod Steps

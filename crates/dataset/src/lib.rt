@@ -1,0 +1,4 @@
+pub mod bytes;
+pub mod header;
+pub mod reading;
+pub mod vr;
