@@ -2,3 +2,4 @@ pub mod Checks
 pub mod Bounds
 pub mod Unfolding
 pub mod Steps
+pub mod Guarantees
