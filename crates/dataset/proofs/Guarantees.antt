@@ -250,6 +250,6 @@ data-set-read d es n e = go (ltb sizeLimit (length d)) refl
     go false b =
         let s = ltb-false sizeLimit (length d) b in
         let h = holds-read (ElementsIn d false levels (length d) 0 0) (elementsAt explicit d false levels (length d) 0 0) es n
-            (elements-read d levels (length d) 0 (omega arith) false 0) (sym (data-set-is d s) ∙ e) in
+        (elements-read d levels (length d) 0 (omega arith) false 0) (sym (data-set-is d s) ∙ e) in
         record { small = s; tree = h .tree; whole = h .filled refl }
     go true b = absurd (true≢false (let z = data-set-over d (ltb-true sizeLimit (length d) b) in cc))

@@ -3,3 +3,5 @@ pub mod Bounds
 pub mod Unfolding
 pub mod Steps
 pub mod Guarantees
+pub mod Order
+pub mod Theorems

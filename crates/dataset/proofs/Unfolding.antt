@@ -241,3 +241,9 @@ module _ (h : Headers) (b : Bounded h) where
       (λ i p q. fragments-same (stop - at) (suc (stop - i)) d left stop i q (omega arith) (omega arith)))
       ∙ one-same stop at (elementsBy h (stop - at) d delimited left stop) (elementsAt h d delimited left stop) (oneAt h d delimited left stop at least) (one-in d delimited left stop at least z)
       (λ i above p q. elements-same (stop - at) (suc (stop - i)) d delimited left stop i above q (omega arith) (omega arith))
+
+  -- any bound above the bytes that are left is enough
+  pub elements-enough : (n : ℕ) (d : List ℕ) (delimited : Bool) (left stop at least : ℕ) → at ≤ stop → stop - at < n
+      → elementsBy h n d delimited left stop at least ≡ elementsAt h d delimited left stop at least
+  unfolding elementsAt
+  elements-enough n d delimited left stop at least z l = elements-same n (suc (stop - at)) d delimited left stop at least z l (omega arith)

@@ -5,3 +5,4 @@ pub mod Header
 pub mod Tree
 pub mod Reading
 pub mod Order
+pub mod Theorems
