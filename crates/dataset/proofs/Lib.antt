@@ -4,4 +4,5 @@ pub mod Unfolding
 pub mod Steps
 pub mod Guarantees
 pub mod Order
+pub mod LookupSteps
 pub mod Theorems

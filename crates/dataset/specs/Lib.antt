@@ -4,5 +4,6 @@ pub mod Vr
 pub mod Header
 pub mod Tree
 pub mod Reading
+pub mod Lookup
 pub mod Order
 pub mod Theorems

@@ -1,4 +1,5 @@
 pub mod bytes;
 pub mod header;
+pub mod lookup;
 pub mod reading;
 pub mod vr;
