@@ -15,7 +15,7 @@ use Rattle.dataset.specs.Bytes.{between}
 use Rattle.dataset.specs.Tree.{Element, Elements, none, and, tagOf, spanOf}
 use Rattle.dataset.specs.Order.{ElementsLie}
 use Rattle.dataset.specs.Reading.{Reading, fault, read, _>>=_, One, ended, element, explicit, byOne, elementsAt, oneAt, sizeLimit, levels, dataSet, oneOf}
-use Rattle.dataset.specs.Lookup.{find, absent, present, foundOf, foundIn, found, orNext, Lookup}
+use Rattle.dataset.specs.Lookup.{find, absent, present, foundOf, foundIn, found, orNext}
 use Rattle.dataset.specs.declared.lookup.Found.{Found}
 use Rattle.dataset.specs.declared.reading.OneOutcome.{OneOutcome}
 use Rattle.dataset.specs.declared.reading.OneOutcome.the-variants as one
@@ -165,7 +165,3 @@ found-inside d tag f e = subst (λ (z : Found). z .start + z .length ≤ length 
     go : (p : Reading Elements) → dataSet d ≡ p → Inside d (foundIn (length d) tag p)
     go (fault g) q = omega arith
     go (read es n) q = find-inside es tag d levels 0 0 n (data-set-read d es n q .tree)
-
-pub lookup-is : (d : List ℕ) (tag : ℕ) (f : Found) → f ≡ found d tag → (value : List ℕ) (number position : ℕ) (stands : Bool) → Lookup f d value number position stands
-    → Lookup (found d tag) d value number position stands
-lookup-is d tag f e value number position stands l = rw e at l

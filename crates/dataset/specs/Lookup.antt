@@ -40,8 +40,11 @@ foundIn size tag (read es next) = foundOf size (find tag es)
 unfoldable pub found : List ℕ → (tag : ℕ) → Found
 found d tag = foundIn (length d) tag (dataSet d)
 
--- what lookup hands back: the part by its offset and length, and the three answers
-pub record Lookup (f : Found) (d value : List ℕ) (number position : ℕ) (present : Bool) : Type 0 where
+-- What lookup hands back: a part of the lent data set, not a copy, by its offset and its length, and the three answers. A place is a block of
+-- memory and an offset in it: `lent` is where the data set starts, `place` where the part starts.
+pub record Lookup (f : Found) (lent : ℕ × ℕ) (d : List ℕ) (place : ℕ × ℕ) (value : List ℕ) (number position : ℕ) (present : Bool) : Type 0 where
+  pub block : place .0 ≡ lent .0
+  pub offset : place .1 ≡ lent .1 + f .start
   pub part : value ≡ between d (f .start) (f .start + f .length)
   pub numbered : number ≡ f .answer .number
   pub positioned : position ≡ f .answer .position

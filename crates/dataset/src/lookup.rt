@@ -94,7 +94,7 @@ pub fn lookup<'a>(
     position: &mut usize,
     present: &mut bool,
 ) -> &'a [u8]
-    ensures { λ r. ⌜ Lookup (found (now (d .entry)) tag) (now (d .entry)) (now r) (now (number .exit)) (now (position .exit)) (now (present .exit)) ⌝ }
+    ensures { λ r. ⌜ Lookup (found (now (d .entry)) tag) (d .entry .ptr) (now (d .entry)) (r .ptr) (now r) (now (number .exit)) (now (position .exit)) (now (present .exit)) ⌝ }
 {
     let f = find(d, tag);
     let answer = f.answer;

@@ -1,6 +1,7 @@
+-- `find` meets its contract: the invariant is `FindLoop`, and each place is a law of proofs/LookupSteps.antt. Assumes nothing.
 use Rattle.dataset.proofs.LookupSteps as steps
 use borrow.Author.Needs.{needs}
-use Prim.Native.Nat.{ℕ, _+_, _-_, _*_, _<_, _≤_}
+use Prim.Native.Nat.{_-_}
 use lib.ListN.{length}
 use Rattle.dataset.proofs.lookup.find.Statement.{statement}
 use Rattle.dataset.proofs.lookup.find.Tie as tie
