@@ -1,25 +1,23 @@
 -- What the reading guarantees of the tree: where each part lies in the data set and what stands there (specs/Order.antt). Assumes nothing.
 use Prim.Native.Nat.{ℕ, zero, suc, _+_, _-_, _%_, _≤_, _<_}
-use mathlib.Core.Path.{_≡_, refl, sym, ap, _∙_, subst}
+use mathlib.Core.Path.{_≡_, refl, sym, _∙_, subst}
 use mathlib.Core.Bool.{Bool, true, false, true≢false}
-use mathlib.Core.List.{List, [], _∷_}
+use mathlib.Core.List.{List}
 use native.Mathlib.Omega.{arith}
 use lib.ListN.{length}
 use lib.Dec.{ltb}
 use borrow.Author.Tests.{ltb-false, ltb-true}
-use Rattle.answer.specs.declared.Answer.{Answer}
 use Rattle.dataset.specs.If.{if_then_else_}
-use Rattle.dataset.specs.Bytes.{tagAt}
 use Rattle.dataset.specs.Vr.{OB, SQ}
-use Rattle.dataset.specs.Header.{itemTag, elementAt, itemAt}
-use Rattle.dataset.specs.Tree.{Span, Element, Elements, none, and, Items, tagOf}
+use Rattle.dataset.specs.Header.{elementAt, itemAt}
+use Rattle.dataset.specs.Tree.{Span, Element, Elements, Items, tagOf}
 use Rattle.dataset.specs.Order.{ValueAt, NestAt, Ends, Closes, PartsLie, ElementLies, ElementsLie, ItemsLie}
 use Rattle.dataset.specs.Reading.{Reading, fault, read, _>>=_, One, ended, element, explicit, byHeader, byOne, byItem, byFragment, fragmentsBy, elementsBy, itemsBy, fragmentsAt, elementsAt, itemsAt, oneAt, sizeLimit, levels, dataSet}
 use Rattle.dataset.specs.declared.header.ElementHeader.{ElementHeader}
 use Rattle.dataset.specs.declared.header.ElementHeader.the-variants as header
 use Rattle.dataset.specs.declared.header.ItemHeader.{ItemHeader}
 use Rattle.dataset.specs.declared.header.ItemHeader.the-variants as place
-use Rattle.dataset.proofs.Bounds.{EndAt, ItemSpan, ElementFacts, ItemFacts, element-facts, item-facts}
+use Rattle.dataset.proofs.Bounds.{EndAt, ElementFacts, ItemFacts, element-facts, item-facts}
 use Rattle.dataset.proofs.Steps.{data-set-is, data-set-over}
 
 -- ---- a property of what is read and of what follows it

@@ -1,17 +1,15 @@
 -- What one turn of `find`'s loop does, with the facts of the place as premises; and where what is found lies. Assumes nothing.
-use Prim.Native.Nat.{ℕ, suc, _+_, _-_, _≤_, _<_}
-use mathlib.Core.Path.{_≡_, refl, sym, ap, _∙_, subst}
-use mathlib.Core.Bool.{Bool, true, false, true≢false}
+use Prim.Native.Nat.{ℕ, _+_, _-_, _≤_, _<_}
+use mathlib.Core.Path.{_≡_, refl, sym, _∙_, subst}
+use mathlib.Core.Bool.{Bool, true, false}
 use mathlib.Core.List.{List}
 use mathlib.Core.Option.{Option, some}
-use mathlib.Core.Option as Opt
 use native.Mathlib.Omega.{arith}
 use lib.ListN.{length}
 use lib.Dec.{eqb}
 use Rattle.answer.specs.declared.Answer.{Answer}
 use Rattle.answer.specs.Answer as answer
 use Rattle.dataset.specs.If.{if_then_else_}
-use Rattle.dataset.specs.Bytes.{between}
 use Rattle.dataset.specs.Tree.{Element, Elements, none, and, tagOf, spanOf}
 use Rattle.dataset.specs.Order.{ElementsLie}
 use Rattle.dataset.specs.Reading.{Reading, fault, read, _>>=_, One, ended, element, explicit, byOne, elementsAt, oneAt, sizeLimit, levels, dataSet, oneOf}
@@ -22,8 +20,8 @@ use Rattle.dataset.specs.declared.reading.OneOutcome.the-variants as one
 use Rattle.dataset.proofs.Bounds.{explicit-bounded}
 use Rattle.dataset.proofs.Unfolding.{elements-are}
 use Rattle.dataset.proofs.Steps.{IsElement, is-element, is-one-fault, is-one-end, one-past, data-set-is, data-set-over}
-use Rattle.dataset.proofs.Guarantees.{Holds, holds-read, OneIs, ElementIn, one-read, DataSetIs, data-set-read}
-use Rattle.dataset.proofs.Order.{SpanInside, span-inside}
+use Rattle.dataset.proofs.Guarantees.{holds-read, OneIs, ElementIn, one-read, data-set-read}
+use Rattle.dataset.proofs.Order.{span-inside}
 
 -- ---- what was found before, or else what is found in what is left
 unfoldable pub withBefore : (size tag : ℕ) → Found → Reading Elements → Found

@@ -1,12 +1,12 @@
 -- Where the parts of a tree end: after where they start, inside the data set, an even number of bytes on. Assumes nothing.
-use Prim.Native.Nat.{ℕ, _+_, _-_, _%_, _≤_, _<_}
-use mathlib.Core.Path.{_≡_, refl}
+use Prim.Native.Nat.{ℕ, _+_, _-_, _%_, _≤_}
+use mathlib.Core.Path.{_≡_}
 use mathlib.Core.List.{List, [], _∷_}
 use native.Mathlib.Omega.{arith}
 use lib.ListN.{length}
 use Rattle.dataset.specs.Vr.{formOf}
 use Rattle.dataset.specs.Tree.{Span, Element, value, sequence, fragments, Elements, none, and, Items, last, item, tagOf, spanOf}
-use Rattle.dataset.specs.Order.{Sized, ValueAt, NestAt, Ends, Closes, PartsLie, ElementLies, ElementsLie, ItemsLie}
+use Rattle.dataset.specs.Order.{Sized, NestAt, Ends, PartsLie, ElementLies, ElementsLie, ItemsLie}
 use Rattle.dataset.specs.declared.vr.Form.{Form}
 use Rattle.dataset.specs.declared.vr.Form.the-variants.{Short, Long, Unknown}
 

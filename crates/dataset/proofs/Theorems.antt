@@ -1,5 +1,5 @@
 -- The theorems that specs/Theorems.antt states. Assumes nothing.
-use Prim.Native.Nat.{ℕ, suc, _+_, _-_, _%_, _≤_, _<_}
+use Prim.Native.Nat.{ℕ, suc, _-_}
 use mathlib.Core.Path.{_≡_, refl, sym, ap, _∙_}
 use mathlib.Core.Bool.{Bool, true, false, true≢false}
 use mathlib.Core.List.{List}
@@ -11,11 +11,11 @@ use Rattle.answer.specs.declared.Answer.{Answer}
 use Rattle.answer.specs.Answer as answer
 use Rattle.dataset.specs.Tree.{Elements}
 use Rattle.dataset.specs.Reading.{Reading, fault, read, explicit, elementsAt, sizeLimit, levels, dataSet, answerOf, WellFormed}
-use Rattle.dataset.specs.Theorems.{EvenLength, Refusal, FaultsInside, Placed, InOrder, FuelSuffices, Equations, Unfolds}
+use Rattle.dataset.specs.Theorems.{EvenLength, Refusal, FaultsInside, InOrder, FuelSuffices, Unfolds}
 use Rattle.dataset.proofs.Bounds.{explicit-bounded}
 use Rattle.dataset.proofs.Unfolding.{Within, FaultIn, elements-within, elements-enough, elements-are, items-are, fragments-are}
 use Rattle.dataset.proofs.Steps.{data-set-is, data-set-over}
-use Rattle.dataset.proofs.Guarantees.{DataSetIs, data-set-read}
+use Rattle.dataset.proofs.Guarantees.{data-set-read}
 use Rattle.dataset.proofs.Order.{elements-end}
 
 within-fault : {A : Type 0} (lo hi : ℕ) (p : Reading A) (f : Answer) → Within lo hi p → p ≡ fault f → FaultIn lo hi f

@@ -1,12 +1,12 @@
 -- The equations of the reading that name no bound on its depth (`elements-are`, `one-is`, `items-are`, `fragments-are`), for any headers
 -- that stay in their extents: the bound is enough, and what is read lies in its extent. Assumes nothing.
 use Prim.Native.Nat.{ℕ, zero, suc, _+_, _-_, _≤_, _<_}
-use mathlib.Core.Path.{_≡_, refl, sym, ap, _∙_}
+use mathlib.Core.Path.{_≡_, refl, ap, _∙_}
 use mathlib.Core.Bool.{Bool, true, false}
-use mathlib.Core.List.{List, [], _∷_}
+use mathlib.Core.List.{List}
 use native.Mathlib.Omega.{arith}
 use Rattle.answer.specs.declared.Answer.{Answer}
-use Rattle.dataset.specs.Tree.{Span, Element, Elements, Items, tagOf}
+use Rattle.dataset.specs.Tree.{Span, Elements, Items, tagOf}
 use Rattle.dataset.specs.Reading.{Reading, fault, read, _>>=_, One, ended, element, Headers, byHeader, byOne, byItem, byFragment, fragmentsBy, elementsBy, itemsBy, fragmentsAt, elementsAt, itemsAt, oneAt}
 use Rattle.dataset.specs.declared.header.ElementHeader.{ElementHeader}
 use Rattle.dataset.specs.declared.header.ElementHeader.the-variants as header

@@ -11,7 +11,7 @@ use Rattle.answer.specs.declared.Answer.{Answer}
 use Rattle.answer.specs.Answer as answer
 use Rattle.dataset.specs.If.{if_then_else_}
 use Rattle.dataset.specs.Bytes.{between}
-use Rattle.dataset.specs.Tree.{Span, Element, Elements, none, and, tagOf, spanOf}
+use Rattle.dataset.specs.Tree.{Element, Elements, none, and, tagOf, spanOf}
 use Rattle.dataset.specs.Reading.{Reading, fault, read, dataSet}
 use Rattle.dataset.specs.declared.lookup.Found.{Found}
 

@@ -1,14 +1,13 @@
 -- What is true of the reading: statements that a reader of the definitions would ask for, each proved in proofs/Theorems.antt. Assumes nothing.
-use Prim.Native.Nat.{ℕ, _+_, _-_, _%_, _≤_, _<_}
+use Prim.Native.Nat.{ℕ, _-_, _%_, _≤_, _<_}
 use mathlib.Core.Path.{_≡_}
 use mathlib.Core.Bool.{Bool, true, false}
 use mathlib.Core.List.{List}
 use lib.ListN.{length}
 use Rattle.answer.specs.declared.Answer.{Answer}
-use Rattle.answer.specs.Answer as answer
 use Rattle.dataset.specs.Header.{itemAt}
 use Rattle.dataset.specs.Tree.{Elements}
-use Rattle.dataset.specs.Reading.{Reading, fault, read, _>>=_, explicit, byOne, byItem, byFragment, elementsBy, elementsAt, itemsAt, fragmentsAt, oneAt, levels, dataSet, WellFormed}
+use Rattle.dataset.specs.Reading.{fault, read, _>>=_, explicit, byOne, byItem, byFragment, elementsBy, elementsAt, itemsAt, fragmentsAt, oneAt, levels, dataSet, WellFormed}
 use Rattle.dataset.specs.Order.{ElementsLie}
 
 -- A well-formed data set has even length.

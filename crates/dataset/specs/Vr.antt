@@ -1,6 +1,6 @@
 -- The VRs: 01, "Reading the data set", the lists of the short and the long form. Assumes nothing.
 use Prim.Native.Nat.{ℕ, _+_, _*_}
-use mathlib.Core.Bool.{Bool, true, false, _||_}
+use mathlib.Core.Bool.{Bool, false, _||_}
 use mathlib.Core.List.{List, [], _∷_}
 use lib.Dec.{eqb}
 use Rattle.dataset.specs.If.{if_then_else_}

@@ -1,7 +1,6 @@
 -- `header` meets its contract: at each `return` the tests that led there say which case of `elementAt` holds. Assumes nothing.
 use Rattle.dataset.proofs.Checks as checks
 use Rattle.dataset.specs.Header.{elementAt}
-use Prim.Native.Nat.{ℕ, _+_, _-_, _*_, _<_, _≤_}
 use borrow.Author.Needs.{needs}
 use Rattle.dataset.proofs.header.header.Statement.{statement}
 use Rattle.dataset.proofs.header.header.Tie as tie

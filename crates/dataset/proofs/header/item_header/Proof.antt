@@ -1,7 +1,6 @@
 -- `item_header` meets its contract: at each `return` the tests that led there say which case of `itemAt` holds. Assumes nothing.
 use Rattle.dataset.proofs.Checks as checks
 use Rattle.dataset.specs.Header.{itemAt}
-use Prim.Native.Nat.{ℕ, _+_, _-_, _*_, _<_, _≤_}
 use borrow.Author.Needs.{needs}
 use Rattle.dataset.proofs.header.item_header.Statement.{statement}
 use Rattle.dataset.proofs.header.item_header.Tie as tie

@@ -59,80 +59,56 @@ abbrev read-one-below : ℕ → In 1 read-one-kinds.ps
 read-one-below t =
     and 1 read-one-kinds.ps (falls 1 read-one-kinds.ps _<_ μ-read-one t) read-one.Pre
 
+-- what each function of the cycle asks of the functions that it calls, and learns from them
+abbrev read-elements-claims : ℕ → read-elements-lts.Claims
+read-elements-claims t =
+    (read-one-below t, read-one.Post)
+
+abbrev read-items-claims : ℕ → read-items-lts.Claims
+read-items-claims t =
+    (item-header-reads.Asked, item-header-reads.Learnt, refused-reads.Asked, refused-reads.Learnt, read-elements-below t, read-elements.Post)
+
+abbrev read-one-claims : ℕ → read-one-lts.Claims
+read-one-claims t =
+    (header-reads.Asked, header-reads.Learnt, refused-reads.Asked, refused-reads.Learnt, read-items-below t, read-items.Post, value-end-reads.Asked, value-end-reads.Learnt, read-fragments-reads.Asked, read-fragments-reads.Learnt)
+
 abbrev read-elements-Inv-loop : read-elements-lts.InvT-loop
 read-elements-Inv-loop d delimited left stop from at₀ least₀ at least = steps.ElementsLoop d delimited left stop from at least
 
 abbrev read-elements-μ-loop : read-elements-lts.MeasureT-loop
 read-elements-μ-loop d delimited left stop from at₀ least₀ at least = stop - at
 
-read-elements-loop-holds : (t : ℕ) → read-elements-lts.Need-loop-holds (
-  read-one-below t,
-  read-one.Post,
-) (read-elements-at t) read-elements.Post read-elements-Inv-loop read-elements-μ-loop
+read-elements-loop-holds : (t : ℕ) → read-elements-lts.Need-loop-holds (read-elements-claims t) (read-elements-at t) read-elements.Post read-elements-Inv-loop read-elements-μ-loop
 read-elements-loop-holds t c = record { inside = search needs; same = refl }
 
-read-elements-read-one-requires : (t : ℕ) → read-elements-lts.Need-read-one-requires (
-  read-one-below t,
-  read-one.Post,
-) (read-elements-at t) read-elements.Post read-elements-Inv-loop read-elements-μ-loop
+read-elements-read-one-requires : (t : ℕ) → read-elements-lts.Need-read-one-requires (read-elements-claims t) (read-elements-at t) read-elements.Post read-elements-Inv-loop read-elements-μ-loop
 read-elements-read-one-requires t c κs = search needs
 
-read-elements-enum-known-fault : (t : ℕ) → read-elements-lts.Need-enum-known-fault (
-  read-one-below t,
-  read-one.Post,
-) (read-elements-at t) read-elements.Post read-elements-Inv-loop read-elements-μ-loop
+read-elements-enum-known-fault : (t : ℕ) → read-elements-lts.Need-enum-known-fault (read-elements-claims t) (read-elements-at t) read-elements.Post read-elements-Inv-loop read-elements-μ-loop
 read-elements-enum-known-fault t c = search needs
 
-read-elements-returns :
-    (t : ℕ) →
-    read-elements-lts.Need-returns
-    (read-one-below t, read-one.Post)
-    (read-elements-at t)
-    read-elements.Post
-    read-elements-Inv-loop
-    read-elements-μ-loop
+read-elements-returns : (t : ℕ) → read-elements-lts.Need-returns (read-elements-claims t) (read-elements-at t) read-elements.Post read-elements-Inv-loop read-elements-μ-loop
 read-elements-returns t c = search steps.elements-refused
 
-read-elements-enum-known-next : (t : ℕ) → read-elements-lts.Need-enum-known-next (
-  read-one-below t,
-  read-one.Post,
-) (read-elements-at t) read-elements.Post read-elements-Inv-loop read-elements-μ-loop
+read-elements-enum-known-next : (t : ℕ) → read-elements-lts.Need-enum-known-next (read-elements-claims t) (read-elements-at t) read-elements.Post read-elements-Inv-loop read-elements-μ-loop
 read-elements-enum-known-next t c = search needs
 
-read-elements-returns-2 : (t : ℕ) → read-elements-lts.Need-returns-2 (
-  read-one-below t,
-  read-one.Post,
-) (read-elements-at t) read-elements.Post read-elements-Inv-loop read-elements-μ-loop
+read-elements-returns-2 : (t : ℕ) → read-elements-lts.Need-returns-2 (read-elements-claims t) (read-elements-at t) read-elements.Post read-elements-Inv-loop read-elements-μ-loop
 read-elements-returns-2 t c = search steps.elements-end
 
-read-elements-enum-known-tag : (t : ℕ) → read-elements-lts.Need-enum-known-tag (
-  read-one-below t,
-  read-one.Post,
-) (read-elements-at t) read-elements.Post read-elements-Inv-loop read-elements-μ-loop
+read-elements-enum-known-tag : (t : ℕ) → read-elements-lts.Need-enum-known-tag (read-elements-claims t) (read-elements-at t) read-elements.Post read-elements-Inv-loop read-elements-μ-loop
 read-elements-enum-known-tag t c = search needs
 
-read-elements-cast-least : (t : ℕ) → read-elements-lts.Need-cast-least (
-  read-one-below t,
-  read-one.Post,
-) (read-elements-at t) read-elements.Post read-elements-Inv-loop read-elements-μ-loop
+read-elements-cast-least : (t : ℕ) → read-elements-lts.Need-cast-least (read-elements-claims t) (read-elements-at t) read-elements.Post read-elements-Inv-loop read-elements-μ-loop
 read-elements-cast-least t c = search needs
 
-read-elements-add-least : (t : ℕ) → read-elements-lts.Need-add-least (
-  read-one-below t,
-  read-one.Post,
-) (read-elements-at t) read-elements.Post read-elements-Inv-loop read-elements-μ-loop
+read-elements-add-least : (t : ℕ) → read-elements-lts.Need-add-least (read-elements-claims t) (read-elements-at t) read-elements.Post read-elements-Inv-loop read-elements-μ-loop
 read-elements-add-least t c = search needs
 
-read-elements-loop-less : (t : ℕ) → read-elements-lts.Need-loop-less (
-  read-one-below t,
-  read-one.Post,
-) (read-elements-at t) read-elements.Post read-elements-Inv-loop read-elements-μ-loop
+read-elements-loop-less : (t : ℕ) → read-elements-lts.Need-loop-less (read-elements-claims t) (read-elements-at t) read-elements.Post read-elements-Inv-loop read-elements-μ-loop
 read-elements-loop-less t c = search steps.elements-less
 
-read-elements-loop-again : (t : ℕ) → read-elements-lts.Need-loop-again (
-  read-one-below t,
-  read-one.Post,
-) (read-elements-at t) read-elements.Post read-elements-Inv-loop read-elements-μ-loop
+read-elements-loop-again : (t : ℕ) → read-elements-lts.Need-loop-again (read-elements-claims t) (read-elements-at t) read-elements.Post read-elements-Inv-loop read-elements-μ-loop
 read-elements-loop-again t c = search steps.elements-again
 
 abbrev read-items-Inv-loop : read-items-lts.InvT-loop
@@ -141,470 +117,120 @@ read-items-Inv-loop d delimited left stop from at₀ at = steps.ItemsLoop d deli
 abbrev read-items-μ-loop : read-items-lts.MeasureT-loop
 read-items-μ-loop d delimited left stop from at₀ at = stop - at
 
-read-items-loop-holds : (t : ℕ) → read-items-lts.Need-loop-holds (
-  item-header-reads.Asked,
-  item-header-reads.Learnt,
-  refused-reads.Asked,
-  refused-reads.Learnt,
-  read-elements-below t,
-  read-elements.Post,
-) (read-items-at t) read-items.Post read-items-Inv-loop read-items-μ-loop
+read-items-loop-holds : (t : ℕ) → read-items-lts.Need-loop-holds (read-items-claims t) (read-items-at t) read-items.Post read-items-Inv-loop read-items-μ-loop
 read-items-loop-holds t c = record { inside = search needs; same = refl }
 
-read-items-item-header-requires : (t : ℕ) → read-items-lts.Need-item-header-requires (
-  item-header-reads.Asked,
-  item-header-reads.Learnt,
-  refused-reads.Asked,
-  refused-reads.Learnt,
-  read-elements-below t,
-  read-elements.Post,
-) (read-items-at t) read-items.Post read-items-Inv-loop read-items-μ-loop
+read-items-item-header-requires : (t : ℕ) → read-items-lts.Need-item-header-requires (read-items-claims t) (read-items-at t) read-items.Post read-items-Inv-loop read-items-μ-loop
 read-items-item-header-requires t c κs = search needs
 
-read-items-enum-known-number : (t : ℕ) → read-items-lts.Need-enum-known-number (
-  item-header-reads.Asked,
-  item-header-reads.Learnt,
-  refused-reads.Asked,
-  refused-reads.Learnt,
-  read-elements-below t,
-  read-elements.Post,
-) (read-items-at t) read-items.Post read-items-Inv-loop read-items-μ-loop
+read-items-enum-known-number : (t : ℕ) → read-items-lts.Need-enum-known-number (read-items-claims t) (read-items-at t) read-items.Post read-items-Inv-loop read-items-μ-loop
 read-items-enum-known-number t c = search needs
 
-read-items-refused-requires : (t : ℕ) → read-items-lts.Need-refused-requires (
-  item-header-reads.Asked,
-  item-header-reads.Learnt,
-  refused-reads.Asked,
-  refused-reads.Learnt,
-  read-elements-below t,
-  read-elements.Post,
-) (read-items-at t) read-items.Post read-items-Inv-loop read-items-μ-loop
+read-items-refused-requires : (t : ℕ) → read-items-lts.Need-refused-requires (read-items-claims t) (read-items-at t) read-items.Post read-items-Inv-loop read-items-μ-loop
 read-items-refused-requires t c κs = search needs
 
-read-items-returns : (t : ℕ) → read-items-lts.Need-returns (
-  item-header-reads.Asked,
-  item-header-reads.Learnt,
-  refused-reads.Asked,
-  refused-reads.Learnt,
-  read-elements-below t,
-  read-elements.Post,
-) (read-items-at t) read-items.Post read-items-Inv-loop read-items-μ-loop
+read-items-returns : (t : ℕ) → read-items-lts.Need-returns (read-items-claims t) (read-items-at t) read-items.Post read-items-Inv-loop read-items-μ-loop
 read-items-returns t c = search steps.items-refused
 
-read-items-enum-known-next : (t : ℕ) → read-items-lts.Need-enum-known-next (
-  item-header-reads.Asked,
-  item-header-reads.Learnt,
-  refused-reads.Asked,
-  refused-reads.Learnt,
-  read-elements-below t,
-  read-elements.Post,
-) (read-items-at t) read-items.Post read-items-Inv-loop read-items-μ-loop
+read-items-enum-known-next : (t : ℕ) → read-items-lts.Need-enum-known-next (read-items-claims t) (read-items-at t) read-items.Post read-items-Inv-loop read-items-μ-loop
 read-items-enum-known-next t c = search needs
 
-read-items-returns-2 : (t : ℕ) → read-items-lts.Need-returns-2 (
-  item-header-reads.Asked,
-  item-header-reads.Learnt,
-  refused-reads.Asked,
-  refused-reads.Learnt,
-  read-elements-below t,
-  read-elements.Post,
-) (read-items-at t) read-items.Post read-items-Inv-loop read-items-μ-loop
+read-items-returns-2 : (t : ℕ) → read-items-lts.Need-returns-2 (read-items-claims t) (read-items-at t) read-items.Post read-items-Inv-loop read-items-μ-loop
 read-items-returns-2 t c = search steps.items-end
 
-read-items-enum-known-start : (t : ℕ) → read-items-lts.Need-enum-known-start (
-  item-header-reads.Asked,
-  item-header-reads.Learnt,
-  refused-reads.Asked,
-  refused-reads.Learnt,
-  read-elements-below t,
-  read-elements.Post,
-) (read-items-at t) read-items.Post read-items-Inv-loop read-items-μ-loop
+read-items-enum-known-start : (t : ℕ) → read-items-lts.Need-enum-known-start (read-items-claims t) (read-items-at t) read-items.Post read-items-Inv-loop read-items-μ-loop
 read-items-enum-known-start t c = search needs
 
-read-items-sub-read-elements : (t : ℕ) → read-items-lts.Need-sub-read-elements (
-  item-header-reads.Asked,
-  item-header-reads.Learnt,
-  refused-reads.Asked,
-  refused-reads.Learnt,
-  read-elements-below t,
-  read-elements.Post,
-) (read-items-at t) read-items.Post read-items-Inv-loop read-items-μ-loop
+read-items-sub-read-elements : (t : ℕ) → read-items-lts.Need-sub-read-elements (read-items-claims t) (read-items-at t) read-items.Post read-items-Inv-loop read-items-μ-loop
 read-items-sub-read-elements t c = search needs
 
-read-items-read-elements-requires : (t : ℕ) → read-items-lts.Need-read-elements-requires (
-  item-header-reads.Asked,
-  item-header-reads.Learnt,
-  refused-reads.Asked,
-  refused-reads.Learnt,
-  read-elements-below t,
-  read-elements.Post,
-) (read-items-at t) read-items.Post read-items-Inv-loop read-items-μ-loop
+read-items-read-elements-requires : (t : ℕ) → read-items-lts.Need-read-elements-requires (read-items-claims t) (read-items-at t) read-items.Post read-items-Inv-loop read-items-μ-loop
 read-items-read-elements-requires t c κs = search (steps.item-order, steps.item-inside, needs)
 
-read-items-enum-known-fault : (t : ℕ) → read-items-lts.Need-enum-known-fault (
-  item-header-reads.Asked,
-  item-header-reads.Learnt,
-  refused-reads.Asked,
-  refused-reads.Learnt,
-  read-elements-below t,
-  read-elements.Post,
-) (read-items-at t) read-items.Post read-items-Inv-loop read-items-μ-loop
+read-items-enum-known-fault : (t : ℕ) → read-items-lts.Need-enum-known-fault (read-items-claims t) (read-items-at t) read-items.Post read-items-Inv-loop read-items-μ-loop
 read-items-enum-known-fault t c = search needs
 
-read-items-returns-3 : (t : ℕ) → read-items-lts.Need-returns-3 (
-  item-header-reads.Asked,
-  item-header-reads.Learnt,
-  refused-reads.Asked,
-  refused-reads.Learnt,
-  read-elements-below t,
-  read-elements.Post,
-) (read-items-at t) read-items.Post read-items-Inv-loop read-items-μ-loop
+read-items-returns-3 : (t : ℕ) → read-items-lts.Need-returns-3 (read-items-claims t) (read-items-at t) read-items.Post read-items-Inv-loop read-items-μ-loop
 read-items-returns-3 t c = search steps.item-refused
 
-read-items-enum-known-next-2 : (t : ℕ) → read-items-lts.Need-enum-known-next-2 (
-  item-header-reads.Asked,
-  item-header-reads.Learnt,
-  refused-reads.Asked,
-  refused-reads.Learnt,
-  read-elements-below t,
-  read-elements.Post,
-) (read-items-at t) read-items.Post read-items-Inv-loop read-items-μ-loop
+read-items-enum-known-next-2 : (t : ℕ) → read-items-lts.Need-enum-known-next-2 (read-items-claims t) (read-items-at t) read-items.Post read-items-Inv-loop read-items-μ-loop
 read-items-enum-known-next-2 t c = search needs
 
-read-items-loop-less : (t : ℕ) → read-items-lts.Need-loop-less (
-  item-header-reads.Asked,
-  item-header-reads.Learnt,
-  refused-reads.Asked,
-  refused-reads.Learnt,
-  read-elements-below t,
-  read-elements.Post,
-) (read-items-at t) read-items.Post read-items-Inv-loop read-items-μ-loop
+read-items-loop-less : (t : ℕ) → read-items-lts.Need-loop-less (read-items-claims t) (read-items-at t) read-items.Post read-items-Inv-loop read-items-μ-loop
 read-items-loop-less t c = search steps.item-less
 
-read-items-loop-again : (t : ℕ) → read-items-lts.Need-loop-again (
-  item-header-reads.Asked,
-  item-header-reads.Learnt,
-  refused-reads.Asked,
-  refused-reads.Learnt,
-  read-elements-below t,
-  read-elements.Post,
-) (read-items-at t) read-items.Post read-items-Inv-loop read-items-μ-loop
+read-items-loop-again : (t : ℕ) → read-items-lts.Need-loop-again (read-items-claims t) (read-items-at t) read-items.Post read-items-Inv-loop read-items-μ-loop
 read-items-loop-again t c = search steps.item-again
 
-read-one-header-requires : (t : ℕ) → read-one-lts.Need-header-requires (
-  header-reads.Asked,
-  header-reads.Learnt,
-  refused-reads.Asked,
-  refused-reads.Learnt,
-  read-items-below t,
-  read-items.Post,
-  value-end-reads.Asked,
-  value-end-reads.Learnt,
-  read-fragments-reads.Asked,
-  read-fragments-reads.Learnt,
-) (read-one-at t) read-one.Post
+read-one-header-requires : (t : ℕ) → read-one-lts.Need-header-requires (read-one-claims t) (read-one-at t) read-one.Post
 read-one-header-requires t c κs = search needs
 
-read-one-enum-known-number : (t : ℕ) → read-one-lts.Need-enum-known-number (
-  header-reads.Asked,
-  header-reads.Learnt,
-  refused-reads.Asked,
-  refused-reads.Learnt,
-  read-items-below t,
-  read-items.Post,
-  value-end-reads.Asked,
-  value-end-reads.Learnt,
-  read-fragments-reads.Asked,
-  read-fragments-reads.Learnt,
-) (read-one-at t) read-one.Post
+read-one-enum-known-number : (t : ℕ) → read-one-lts.Need-enum-known-number (read-one-claims t) (read-one-at t) read-one.Post
 read-one-enum-known-number t c = search needs
 
-read-one-refused-requires : (t : ℕ) → read-one-lts.Need-refused-requires (
-  header-reads.Asked,
-  header-reads.Learnt,
-  refused-reads.Asked,
-  refused-reads.Learnt,
-  read-items-below t,
-  read-items.Post,
-  value-end-reads.Asked,
-  value-end-reads.Learnt,
-  read-fragments-reads.Asked,
-  read-fragments-reads.Learnt,
-) (read-one-at t) read-one.Post
+read-one-refused-requires : (t : ℕ) → read-one-lts.Need-refused-requires (read-one-claims t) (read-one-at t) read-one.Post
 read-one-refused-requires t c κs = search needs
 
-read-one-enum-known-next : (t : ℕ) → read-one-lts.Need-enum-known-next (
-  header-reads.Asked,
-  header-reads.Learnt,
-  refused-reads.Asked,
-  refused-reads.Learnt,
-  read-items-below t,
-  read-items.Post,
-  value-end-reads.Asked,
-  value-end-reads.Learnt,
-  read-fragments-reads.Asked,
-  read-fragments-reads.Learnt,
-) (read-one-at t) read-one.Post
+read-one-enum-known-next : (t : ℕ) → read-one-lts.Need-enum-known-next (read-one-claims t) (read-one-at t) read-one.Post
 read-one-enum-known-next t c = search needs
 
-read-one-enum-known-tag : (t : ℕ) → read-one-lts.Need-enum-known-tag (
-  header-reads.Asked,
-  header-reads.Learnt,
-  refused-reads.Asked,
-  refused-reads.Learnt,
-  read-items-below t,
-  read-items.Post,
-  value-end-reads.Asked,
-  value-end-reads.Learnt,
-  read-fragments-reads.Asked,
-  read-fragments-reads.Learnt,
-) (read-one-at t) read-one.Post
+read-one-enum-known-tag : (t : ℕ) → read-one-lts.Need-enum-known-tag (read-one-claims t) (read-one-at t) read-one.Post
 read-one-enum-known-tag t c = search needs
 
-read-one-enum-known-tag-2 : (t : ℕ) → read-one-lts.Need-enum-known-tag-2 (
-  header-reads.Asked,
-  header-reads.Learnt,
-  refused-reads.Asked,
-  refused-reads.Learnt,
-  read-items-below t,
-  read-items.Post,
-  value-end-reads.Asked,
-  value-end-reads.Learnt,
-  read-fragments-reads.Asked,
-  read-fragments-reads.Learnt,
-) (read-one-at t) read-one.Post
+read-one-enum-known-tag-2 : (t : ℕ) → read-one-lts.Need-enum-known-tag-2 (read-one-claims t) (read-one-at t) read-one.Post
 read-one-enum-known-tag-2 t c = search needs
 
-read-one-read-items-requires : (t : ℕ) → read-one-lts.Need-read-items-requires (
-  header-reads.Asked,
-  header-reads.Learnt,
-  refused-reads.Asked,
-  refused-reads.Learnt,
-  read-items-below t,
-  read-items.Post,
-  value-end-reads.Asked,
-  value-end-reads.Learnt,
-  read-fragments-reads.Asked,
-  read-fragments-reads.Learnt,
-) (read-one-at t) read-one.Post
+read-one-read-items-requires : (t : ℕ) → read-one-lts.Need-read-items-requires (read-one-claims t) (read-one-at t) read-one.Post
 read-one-read-items-requires t c κs = search (steps.sequence-level, steps.sequence-order, steps.sequence-inside, needs)
 
-read-one-enum-known-fault : (t : ℕ) → read-one-lts.Need-enum-known-fault (
-  header-reads.Asked,
-  header-reads.Learnt,
-  refused-reads.Asked,
-  refused-reads.Learnt,
-  read-items-below t,
-  read-items.Post,
-  value-end-reads.Asked,
-  value-end-reads.Learnt,
-  read-fragments-reads.Asked,
-  read-fragments-reads.Learnt,
-) (read-one-at t) read-one.Post
+read-one-enum-known-fault : (t : ℕ) → read-one-lts.Need-enum-known-fault (read-one-claims t) (read-one-at t) read-one.Post
 read-one-enum-known-fault t c = search needs
 
-read-one-enum-known-next-2 : (t : ℕ) → read-one-lts.Need-enum-known-next-2 (
-  header-reads.Asked,
-  header-reads.Learnt,
-  refused-reads.Asked,
-  refused-reads.Learnt,
-  read-items-below t,
-  read-items.Post,
-  value-end-reads.Asked,
-  value-end-reads.Learnt,
-  read-fragments-reads.Asked,
-  read-fragments-reads.Learnt,
-) (read-one-at t) read-one.Post
+read-one-enum-known-next-2 : (t : ℕ) → read-one-lts.Need-enum-known-next-2 (read-one-claims t) (read-one-at t) read-one.Post
 read-one-enum-known-next-2 t c = search needs
 
-read-one-value-end-requires : (t : ℕ) → read-one-lts.Need-value-end-requires (
-  header-reads.Asked,
-  header-reads.Learnt,
-  refused-reads.Asked,
-  refused-reads.Learnt,
-  read-items-below t,
-  read-items.Post,
-  value-end-reads.Asked,
-  value-end-reads.Learnt,
-  read-fragments-reads.Asked,
-  read-fragments-reads.Learnt,
-) (read-one-at t) read-one.Post
+read-one-value-end-requires : (t : ℕ) → read-one-lts.Need-value-end-requires (read-one-claims t) (read-one-at t) read-one.Post
 read-one-value-end-requires t c κs = search steps.sequence-past
 
-read-one-enum-known-tag-3 : (t : ℕ) → read-one-lts.Need-enum-known-tag-3 (
-  header-reads.Asked,
-  header-reads.Learnt,
-  refused-reads.Asked,
-  refused-reads.Learnt,
-  read-items-below t,
-  read-items.Post,
-  value-end-reads.Asked,
-  value-end-reads.Learnt,
-  read-fragments-reads.Asked,
-  read-fragments-reads.Learnt,
-) (read-one-at t) read-one.Post
+read-one-enum-known-tag-3 : (t : ℕ) → read-one-lts.Need-enum-known-tag-3 (read-one-claims t) (read-one-at t) read-one.Post
 read-one-enum-known-tag-3 t c = search needs
 
-read-one-read-fragments-requires : (t : ℕ) → read-one-lts.Need-read-fragments-requires (
-  header-reads.Asked,
-  header-reads.Learnt,
-  refused-reads.Asked,
-  refused-reads.Learnt,
-  read-items-below t,
-  read-items.Post,
-  value-end-reads.Asked,
-  value-end-reads.Learnt,
-  read-fragments-reads.Asked,
-  read-fragments-reads.Learnt,
-) (read-one-at t) read-one.Post
+read-one-read-fragments-requires : (t : ℕ) → read-one-lts.Need-read-fragments-requires (read-one-claims t) (read-one-at t) read-one.Post
 read-one-read-fragments-requires t c κs = search (steps.parts-order, steps.parts-inside)
 
-read-one-enum-known-fault-2 : (t : ℕ) → read-one-lts.Need-enum-known-fault-2 (
-  header-reads.Asked,
-  header-reads.Learnt,
-  refused-reads.Asked,
-  refused-reads.Learnt,
-  read-items-below t,
-  read-items.Post,
-  value-end-reads.Asked,
-  value-end-reads.Learnt,
-  read-fragments-reads.Asked,
-  read-fragments-reads.Learnt,
-) (read-one-at t) read-one.Post
+read-one-enum-known-fault-2 : (t : ℕ) → read-one-lts.Need-enum-known-fault-2 (read-one-claims t) (read-one-at t) read-one.Post
 read-one-enum-known-fault-2 t c = search needs
 
-read-one-enum-known-next-3 : (t : ℕ) → read-one-lts.Need-enum-known-next-3 (
-  header-reads.Asked,
-  header-reads.Learnt,
-  refused-reads.Asked,
-  refused-reads.Learnt,
-  read-items-below t,
-  read-items.Post,
-  value-end-reads.Asked,
-  value-end-reads.Learnt,
-  read-fragments-reads.Asked,
-  read-fragments-reads.Learnt,
-) (read-one-at t) read-one.Post
+read-one-enum-known-next-3 : (t : ℕ) → read-one-lts.Need-enum-known-next-3 (read-one-claims t) (read-one-at t) read-one.Post
 read-one-enum-known-next-3 t c = search needs
 
-read-one-sub-t31 : (t : ℕ) → read-one-lts.Need-sub-t31 (
-  header-reads.Asked,
-  header-reads.Learnt,
-  refused-reads.Asked,
-  refused-reads.Learnt,
-  read-items-below t,
-  read-items.Post,
-  value-end-reads.Asked,
-  value-end-reads.Learnt,
-  read-fragments-reads.Asked,
-  read-fragments-reads.Learnt,
-) (read-one-at t) read-one.Post
+read-one-sub-t31 : (t : ℕ) → read-one-lts.Need-sub-t31 (read-one-claims t) (read-one-at t) read-one.Post
 read-one-sub-t31 t c = search steps.parts-past
 
-read-one-returns : (t : ℕ) → read-one-lts.Need-returns (
-  header-reads.Asked,
-  header-reads.Learnt,
-  refused-reads.Asked,
-  refused-reads.Learnt,
-  read-items-below t,
-  read-items.Post,
-  value-end-reads.Asked,
-  value-end-reads.Learnt,
-  read-fragments-reads.Asked,
-  read-fragments-reads.Learnt,
-) (read-one-at t) read-one.Post
+read-one-returns : (t : ℕ) → read-one-lts.Need-returns (read-one-claims t) (read-one-at t) read-one.Post
 read-one-returns t c = search steps.one-refused
 
-read-one-returns-2 : (t : ℕ) → read-one-lts.Need-returns-2 (
-  header-reads.Asked,
-  header-reads.Learnt,
-  refused-reads.Asked,
-  refused-reads.Learnt,
-  read-items-below t,
-  read-items.Post,
-  value-end-reads.Asked,
-  value-end-reads.Learnt,
-  read-fragments-reads.Asked,
-  read-fragments-reads.Learnt,
-) (read-one-at t) read-one.Post
+read-one-returns-2 : (t : ℕ) → read-one-lts.Need-returns-2 (read-one-claims t) (read-one-at t) read-one.Post
 read-one-returns-2 t c = search steps.one-end
 
-read-one-returns-3 : (t : ℕ) → read-one-lts.Need-returns-3 (
-  header-reads.Asked,
-  header-reads.Learnt,
-  refused-reads.Asked,
-  refused-reads.Learnt,
-  read-items-below t,
-  read-items.Post,
-  value-end-reads.Asked,
-  value-end-reads.Learnt,
-  read-fragments-reads.Asked,
-  read-fragments-reads.Learnt,
-) (read-one-at t) read-one.Post
+read-one-returns-3 : (t : ℕ) → read-one-lts.Need-returns-3 (read-one-claims t) (read-one-at t) read-one.Post
 read-one-returns-3 t c = search steps.one-value
 
-read-one-returns-4 : (t : ℕ) → read-one-lts.Need-returns-4 (
-  header-reads.Asked,
-  header-reads.Learnt,
-  refused-reads.Asked,
-  refused-reads.Learnt,
-  read-items-below t,
-  read-items.Post,
-  value-end-reads.Asked,
-  value-end-reads.Learnt,
-  read-fragments-reads.Asked,
-  read-fragments-reads.Learnt,
-) (read-one-at t) read-one.Post
+read-one-returns-4 : (t : ℕ) → read-one-lts.Need-returns-4 (read-one-claims t) (read-one-at t) read-one.Post
 read-one-returns-4 t c = search steps.sequence-refused
 
-read-one-returns-5 : (t : ℕ) → read-one-lts.Need-returns-5 (
-  header-reads.Asked,
-  header-reads.Learnt,
-  refused-reads.Asked,
-  refused-reads.Learnt,
-  read-items-below t,
-  read-items.Post,
-  value-end-reads.Asked,
-  value-end-reads.Learnt,
-  read-fragments-reads.Asked,
-  read-fragments-reads.Learnt,
-) (read-one-at t) read-one.Post
+read-one-returns-5 : (t : ℕ) → read-one-lts.Need-returns-5 (read-one-claims t) (read-one-at t) read-one.Post
 read-one-returns-5 t c = search steps.sequence-read
 
-read-one-returns-6 : (t : ℕ) → read-one-lts.Need-returns-6 (
-  header-reads.Asked,
-  header-reads.Learnt,
-  refused-reads.Asked,
-  refused-reads.Learnt,
-  read-items-below t,
-  read-items.Post,
-  value-end-reads.Asked,
-  value-end-reads.Learnt,
-  read-fragments-reads.Asked,
-  read-fragments-reads.Learnt,
-) (read-one-at t) read-one.Post
+read-one-returns-6 : (t : ℕ) → read-one-lts.Need-returns-6 (read-one-claims t) (read-one-at t) read-one.Post
 read-one-returns-6 t c = search steps.parts-refused
 
-read-one-returns-7 : (t : ℕ) → read-one-lts.Need-returns-7 (
-  header-reads.Asked,
-  header-reads.Learnt,
-  refused-reads.Asked,
-  refused-reads.Learnt,
-  read-items-below t,
-  read-items.Post,
-  value-end-reads.Asked,
-  value-end-reads.Learnt,
-  read-fragments-reads.Asked,
-  read-fragments-reads.Learnt,
-) (read-one-at t) read-one.Post
+read-one-returns-7 : (t : ℕ) → read-one-lts.Need-returns-7 (read-one-claims t) (read-one-at t) read-one.Post
 read-one-returns-7 t c = search steps.parts-read
 
 pub +read-elements+read-items+read-one-spec : {M : Type 1} → statement M
 +read-elements+read-items+read-one-spec =
-    close μ-read-elements μ-read-items μ-read-one (λ t. read-elements-lts.spec (
-      read-one-below t,
-      read-one.Post,
-    )
+    close μ-read-elements μ-read-items μ-read-one (λ t. read-elements-lts.spec (read-elements-claims t)
     (read-elements-at t)
     read-elements.Post
     read-elements-Inv-loop
@@ -620,14 +246,7 @@ pub +read-elements+read-items+read-one-spec : {M : Type 1} → statement M
     (read-elements-add-least t)
     (read-elements-loop-less t)
     (read-elements-loop-again t))
-    (λ t. read-items-lts.spec (
-      item-header-reads.Asked,
-      item-header-reads.Learnt,
-      refused-reads.Asked,
-      refused-reads.Learnt,
-      read-elements-below t,
-      read-elements.Post,
-    )
+    (λ t. read-items-lts.spec (read-items-claims t)
     (read-items-at t)
     read-items.Post
     read-items-Inv-loop
@@ -647,18 +266,7 @@ pub +read-elements+read-items+read-one-spec : {M : Type 1} → statement M
     (read-items-enum-known-next-2 t)
     (read-items-loop-less t)
     (read-items-loop-again t))
-    λ t. read-one-lts.spec (
-      header-reads.Asked,
-      header-reads.Learnt,
-      refused-reads.Asked,
-      refused-reads.Learnt,
-      read-items-below t,
-      read-items.Post,
-      value-end-reads.Asked,
-      value-end-reads.Learnt,
-      read-fragments-reads.Asked,
-      read-fragments-reads.Learnt,
-    )
+    λ t. read-one-lts.spec (read-one-claims t)
     (read-one-at t)
     read-one.Post
     (read-one-header-requires t)

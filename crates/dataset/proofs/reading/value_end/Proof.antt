@@ -1,6 +1,5 @@
 -- `value_end` meets its contract: by cases. Assumes nothing.
 use Rattle.dataset.proofs.Checks as checks
-use native.Mathlib.Omega.{arith}
 use borrow.Author.Needs.{needs}
 use Rattle.dataset.proofs.reading.value_end.Statement.{statement}
 use Rattle.dataset.proofs.reading.value_end.Tie as tie
