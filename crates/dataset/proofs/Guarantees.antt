@@ -7,12 +7,13 @@ use native.Mathlib.Omega.{arith}
 use lib.ListN.{length}
 use lib.Dec.{ltb}
 use borrow.Author.Tests.{ltb-false, ltb-true}
+use Rattle.answer.specs.declared.Answer.{Answer}
 use Rattle.dataset.specs.If.{if_then_else_}
 use Rattle.dataset.specs.Vr.{OB, SQ}
 use Rattle.dataset.specs.Header.{elementAt, itemAt}
 use Rattle.dataset.specs.Tree.{Span, Element, Elements, Items, tagOf}
 use Rattle.dataset.specs.Order.{ValueAt, NestAt, Ends, Closes, PartsLie, ElementLies, ElementsLie, ItemsLie}
-use Rattle.dataset.specs.Reading.{Reading, fault, read, _>>=_, One, ended, element, explicit, byHeader, byOne, byItem, byFragment, fragmentsBy, elementsBy, itemsBy, fragmentsAt, elementsAt, itemsAt, oneAt, sizeLimit, levels, dataSet}
+use Rattle.dataset.specs.Reading.{Reading, fault, read, _>>=_, One, ended, element, explicit, refusal, byHeader, byOne, byItem, byFragment, fragmentsBy, elementsBy, itemsBy, fragmentsAt, elementsAt, itemsAt, oneAt, sizeLimit, levels, dataSet}
 use Rattle.dataset.specs.declared.header.ElementHeader.{ElementHeader}
 use Rattle.dataset.specs.declared.header.ElementHeader.the-variants as header
 use Rattle.dataset.specs.declared.header.ItemHeader.{ItemHeader}
@@ -95,11 +96,11 @@ unfolding if_then_else_
 span-closes true start n h f = let k = f refl in record { order = omega arith; inside = omega arith }
 span-closes false start n h f = record { order = h; inside = omega arith }
 
-module _ (d : List ℕ) (stop at : ℕ) (l : stop ≤ length d) where
+module _ (d : List ℕ) (stop at : ℕ) (l : stop ≤ length d) (refuse : ℕ → Answer) where
   abbrev PartsHold : (ℕ → Reading (List Span)) → Type 0
   PartsHold parts = (i : ℕ) → at < i → i ≤ stop → Holds (PartsIn d stop i) (parts i)
 
-  fragment-holds : (parts : ℕ → Reading (List Span)) (p : ItemHeader) → ItemFacts d false true stop at p → PartsHold parts → Holds (PartsIn d stop at) (byFragment parts at p)
+  fragment-holds : (parts : ℕ → Reading (List Span)) (p : ItemHeader) → ItemFacts d false true stop at p → PartsHold parts → Holds (PartsIn d stop at) (byFragment refuse parts p)
   unfolding byFragment PartsLie
   fragment-holds parts (place.Refused number) h f = tt
   fragment-holds parts (place.End next) h f =
@@ -112,7 +113,7 @@ module _ (d : List ℕ) (stop at : ℕ) (l : stop ≤ length d) where
   header-holds : (delimited : Bool) (left least : ℕ) (items : Bool → ℕ → ℕ → Reading Items) (parts : ℕ → Reading (List Span)) (p : ElementHeader)
       → ElementFacts d delimited left stop at least p
       → ((inner : Bool) (end i : ℕ) → at < i → i ≤ end → end ≤ stop → Holds (ItemsIn d inner left end i) (items inner end i))
-      → PartsHold parts → Holds (OneIs d delimited left stop least at) (byHeader items parts at p)
+      → PartsHold parts → Holds (OneIs d delimited left stop least at) (byHeader refuse items parts at p)
   unfolding byHeader ElementLies
   header-holds delimited left least items parts (header.Refused number) h f g = tt
   header-holds delimited left least items parts (header.End next) h f g = h
@@ -155,7 +156,7 @@ module _ (d : List ℕ) (stop at : ℕ) (l : stop ≤ length d) where
       → ItemFacts d true delimited stop at p
       → ((inner : Bool) (end i : ℕ) → at < i → i ≤ end → end ≤ stop → Holds (ElementsIn d inner (left - 1) end 0 i) (elements inner end i))
       → ((i : ℕ) → at < i → i ≤ stop → Holds (ItemsIn d delimited left stop i) (items i))
-      → Holds (ItemsIn d delimited left stop at) (byItem elements items at p)
+      → Holds (ItemsIn d delimited left stop at) (byItem refuse elements items at p)
   unfolding byItem ItemsLie
   item-holds delimited left elements items (place.Refused number) h f g = tt
   item-holds delimited left elements items (place.End next) h f g = record {
@@ -184,7 +185,7 @@ fragments-hold : (n : ℕ) (d : List ℕ) (left stop at : ℕ) → stop ≤ leng
 unfolding fragmentsBy
 fragments-hold zero d left stop at l = tt
 fragments-hold (suc n) d left stop at l =
-    fragment-holds d stop at l (fragmentsBy explicit n d left stop) (itemAt d false true stop at) (item-facts d false true stop at) λ i p q. fragments-hold n d left stop i l
+    fragment-holds d stop at l (refusal at) (fragmentsBy explicit n d left stop) (itemAt d false true stop at) (item-facts d false true stop at) λ i p q. fragments-hold n d left stop i l
 
 mutual
   unfolding elementsBy
@@ -194,20 +195,20 @@ mutual
   elements-hold zero d delimited left stop at least l = tt
   elements-hold (suc n) d delimited left stop at least l =
       then-holds (OneIs d delimited left stop least at) (ElementsIn d delimited left stop least at)
-      (byHeader (λ inner end i. itemsBy explicit n d inner left end i) (fragmentsBy explicit n d left stop) at (elementAt d delimited left stop at least))
+      (byHeader (refusal at) (λ inner end i. itemsBy explicit n d inner left end i) (fragmentsBy explicit n d left stop) at (elementAt d delimited left stop at least))
       (byOne (λ i above. elementsBy explicit n d delimited left stop i above))
-      (header-holds d stop at l delimited left least (λ inner end i. itemsBy explicit n d inner left end i) (fragmentsBy explicit n d left stop)
+      (header-holds d stop at l (refusal at) delimited left least (λ inner end i. itemsBy explicit n d inner left end i) (fragmentsBy explicit n d left stop)
       (elementAt d delimited left stop at least) (element-facts d delimited left stop at least)
       (λ inner end i p q r. items-hold n d inner left end i (omega arith))
       (λ i p q. fragments-hold n d left stop i l))
-      (λ o m h. one-holds d stop at l delimited left least (λ i above. elementsBy explicit n d delimited left stop i above) o m h
+      (λ o m h. one-holds d stop at l (refusal at) delimited left least (λ i above. elementsBy explicit n d delimited left stop i above) o m h
       λ i above p q. elements-hold n d delimited left stop i above l)
 
   items-hold : (n : ℕ) (d : List ℕ) (delimited : Bool) (left stop at : ℕ) → stop ≤ length d
       → Holds (ItemsIn d delimited left stop at) (itemsBy explicit n d delimited left stop at)
   items-hold zero d delimited left stop at l = tt
   items-hold (suc n) d delimited left stop at l =
-      item-holds d stop at l delimited left (λ inner end i. elementsBy explicit n d inner (left - 1) end i 0) (λ i. itemsBy explicit n d delimited left stop i)
+      item-holds d stop at l (refusal at) delimited left (λ inner end i. elementsBy explicit n d inner (left - 1) end i 0) (λ i. itemsBy explicit n d delimited left stop i)
       (itemAt d true delimited stop at) (item-facts d true delimited stop at)
       (λ inner end i p q r. elements-hold n d inner (left - 1) end i 0 (omega arith))
       (λ i p q. items-hold n d delimited left stop i l)
@@ -230,7 +231,7 @@ pub one-read : (d : List ℕ) (left stop at : ℕ) → stop ≤ length d → (de
     → Holds (OneIs d delimited left stop least at) (oneAt explicit d delimited left stop at least)
 unfolding oneAt
 one-read d left stop at l delimited least =
-    header-holds d stop at l delimited left least (λ inner. itemsAt explicit d inner left) (fragmentsAt explicit d left stop)
+    header-holds d stop at l (refusal at) delimited left least (λ inner. itemsAt explicit d inner left) (fragmentsAt explicit d left stop)
     (elementAt d delimited left stop at least) (element-facts d delimited left stop at least)
     (λ inner end i p q r. items-read d left end i (omega arith) inner)
     (λ i p q. fragments-read d left stop i l)

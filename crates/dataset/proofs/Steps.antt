@@ -12,7 +12,7 @@ use Rattle.dataset.specs.If.{if_then_else_}
 use Rattle.dataset.specs.Vr.{OB, SQ}
 use Rattle.dataset.specs.Header.{elementAt, itemAt}
 use Rattle.dataset.specs.Tree.{Element, tagOf, vrOf, spanOf}
-use Rattle.dataset.specs.Reading.{Reading, fault, read, _>>=_, One, ended, element, explicit, byHeader, byOne, byItem, byFragment, fragmentsAt, elementsAt, itemsAt, oneAt, sizeLimit, levels, dataSet, answerOf, outcomeOf, oneOf}
+use Rattle.dataset.specs.Reading.{Reading, fault, read, _>>=_, One, ended, element, explicit, refusal, byHeader, byOne, byItem, byFragment, fragmentsAt, elementsAt, itemsAt, oneAt, sizeLimit, levels, dataSet, answerOf, outcomeOf, oneOf}
 use Rattle.dataset.specs.declared.header.ElementHeader.{ElementHeader}
 use Rattle.dataset.specs.declared.header.ElementHeader.the-variants as header
 use Rattle.dataset.specs.declared.header.ItemHeader.{ItemHeader}
@@ -90,10 +90,10 @@ module _ (d : List ℕ) (stop at : ℕ) (r : ItemHeader) (e : r ≡ itemAt d fal
   fragments-less start end inner q h = let k = fragment-at (place.Item start end inner) q .0 in omega (arith, k)
 
   module _ (left : ℕ) (h : at ≤ stop) where
-    fragments-at : (p : ItemHeader) → r ≡ p → fragmentsAt explicit d left stop at ≡ byFragment (fragmentsAt explicit d left stop) at p
+    fragments-at : (p : ItemHeader) → r ≡ p → fragmentsAt explicit d left stop at ≡ byFragment (refusal at) (fragmentsAt explicit d left stop) p
     fragments-at p q = rw (fragments-are explicit explicit-bounded d left stop at h, sym e ∙ q)
 
-    pub fragments-refused : (number : ℕ) (f : Answer) (R : Outcome) → r ≡ place.Refused number → f ≡ answer.refused number at
+    pub fragments-refused : (number : ℕ) (f : Answer) (R : Outcome) → r ≡ place.Refused number → f ≡ refusal at number
         → R ≡ outcomeOf (fragmentsAt explicit d left stop at) → outcome.Refused f ≡ R
     unfolding byFragment
     fragments-refused number f R q g i = ap outcome.Refused g ∙ sym (i ∙ ap outcomeOf (fragments-at (place.Refused number) q))
@@ -115,11 +115,11 @@ module _ (d : List ℕ) (delimited : Bool) (left stop at least : ℕ) (r : Eleme
   element-at p q = rw (sym e ∙ q) at (element-facts d delimited left stop at least)
 
   one-is : (p : ElementHeader) → r ≡ p → oneAt explicit d delimited left stop at least
-      ≡ byHeader (λ inner. itemsAt explicit d inner left) (fragmentsAt explicit d left stop) at p
+      ≡ byHeader (refusal at) (λ inner. itemsAt explicit d inner left) (fragmentsAt explicit d left stop) at p
   unfolding oneAt
   one-is p q = rw (sym e ∙ q)
 
-  pub one-refused : (number : ℕ) (f : Answer) → r ≡ header.Refused number → f ≡ answer.refused number at
+  pub one-refused : (number : ℕ) (f : Answer) → r ≡ header.Refused number → f ≡ refusal at number
       → one.Refused f ≡ oneOf (oneAt explicit d delimited left stop at least)
   unfolding byHeader
   one-refused number f q g = ap one.Refused g ∙ sym (ap oneOf (one-is (header.Refused number) q))
@@ -256,10 +256,10 @@ module _ (d : List ℕ) (delimited : Bool) (stop at : ℕ) (r : ItemHeader) (e :
 
   module _ (left : ℕ) (h : at ≤ stop) where
     items-at : (p : ItemHeader) → r ≡ p → itemsAt explicit d delimited left stop at
-        ≡ byItem (λ inner end start. elementsAt explicit d inner (left - 1) end start 0) (itemsAt explicit d delimited left stop) at p
+        ≡ byItem (refusal at) (λ inner end start. elementsAt explicit d inner (left - 1) end start 0) (itemsAt explicit d delimited left stop) at p
     items-at p q = rw (items-are explicit explicit-bounded d delimited left stop at h, sym e ∙ q)
 
-    pub items-refused : (number : ℕ) (f : Answer) (R : Outcome) → r ≡ place.Refused number → f ≡ answer.refused number at
+    pub items-refused : (number : ℕ) (f : Answer) (R : Outcome) → r ≡ place.Refused number → f ≡ refusal at number
         → R ≡ outcomeOf (itemsAt explicit d delimited left stop at) → outcome.Refused f ≡ R
     unfolding byItem
     items-refused number f R q g i = ap outcome.Refused g ∙ sym (i ∙ ap outcomeOf (items-at (place.Refused number) q))

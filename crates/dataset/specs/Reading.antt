@@ -45,16 +45,20 @@ pub record Headers : Type 0 where
 abbrev pub explicit : Headers
 explicit = record { element = elementAt; item = itemAt }
 
--- One element, by its header. Handed in are the readers of its items (to a delimiter or not, up to an offset, from an offset on) and of
--- its fragments (from an offset on). A closing delimiter, of 8 bytes, is no part of the value.
-unfoldable pub byHeader : (items : Bool → ℕ → ℕ → Reading Items) (parts : ℕ → Reading (List Span)) (at : ℕ) → ElementHeader → Reading One
-byHeader items parts at (header.Refused number) = fault (answer.refused number at)
-byHeader items parts at (header.End next) = read ended next
-byHeader items parts at (header.Value tag vr start stop) = read (element (value at tag vr (record { start = start; end = stop }))) stop
-byHeader items parts at (header.Sequence tag start stop delimited) = do
+-- the refusal of the header at `at`: "at the offset where that element's, item's or delimiter's header starts"
+abbrev pub refusal : (at number : ℕ) → Answer
+refusal at number = answer.refused number at
+
+-- One element, by its header. Handed in are the refusal of each number here, the reader of its items (to a delimiter or not, up to an
+-- offset, from an offset on) and that of its fragments (from an offset on). A closing delimiter, of 8 bytes, is no part of the value.
+unfoldable pub byHeader : (refuse : ℕ → Answer) (items : Bool → ℕ → ℕ → Reading Items) (parts : ℕ → Reading (List Span)) (at : ℕ) → ElementHeader → Reading One
+byHeader refuse items parts at (header.Refused number) = fault (refuse number)
+byHeader refuse items parts at (header.End next) = read ended next
+byHeader refuse items parts at (header.Value tag vr start stop) = read (element (value at tag vr (record { start = start; end = stop }))) stop
+byHeader refuse items parts at (header.Sequence tag start stop delimited) = do
   (inside, next) ← items delimited stop start
   read (element (sequence at tag (record { start = start; end = if delimited then next - 8 else next }) inside)) next
-byHeader items parts at (header.Fragments tag start) = do
+byHeader refuse items parts at (header.Fragments tag start) = do
   (inside, next) ← parts start
   read (element (fragments at tag (record { start = start; end = next - 8 }) inside)) next
 
@@ -65,21 +69,21 @@ byOne elements (element e, next) = do
   (rest, after) ← elements next (tagOf e + 1)
   read (and e rest) after
 
--- Items are one item and the rest. Handed in are the reader of an item's elements (to a delimiter or not, up to an offset, from an
+-- Items are one item and the rest. Handed in are the refusal of each number here, the reader of an item's elements (to a delimiter or not, up to an offset, from an
 -- offset on) and that of the rest.
-unfoldable pub byItem : (elements : Bool → ℕ → ℕ → Reading Elements) (items : ℕ → Reading Items) (at : ℕ) → ItemHeader → Reading Items
-byItem elements items at (place.Refused number) = fault (answer.refused number at)
-byItem elements items at (place.End next) = read last next
-byItem elements items at (place.Item start stop delimited) = do
+unfoldable pub byItem : (refuse : ℕ → Answer) (elements : Bool → ℕ → ℕ → Reading Elements) (items : ℕ → Reading Items) (at : ℕ) → ItemHeader → Reading Items
+byItem refuse elements items at (place.Refused number) = fault (refuse number)
+byItem refuse elements items at (place.End next) = read last next
+byItem refuse elements items at (place.Item start stop delimited) = do
   (inside, next) ← elements delimited stop start
   (rest, after) ← items next
   read (item at inside rest) after
 
 -- Fragments are one fragment and the rest: "Their bytes aren't looked into".
-unfoldable pub byFragment : (parts : ℕ → Reading (List Span)) (at : ℕ) → ItemHeader → Reading (List Span)
-byFragment parts at (place.Refused number) = fault (answer.refused number at)
-byFragment parts at (place.End next) = read [] next
-byFragment parts at (place.Item start stop delimited) = do
+unfoldable pub byFragment : (refuse : ℕ → Answer) (parts : ℕ → Reading (List Span)) → ItemHeader → Reading (List Span)
+byFragment refuse parts (place.Refused number) = fault (refuse number)
+byFragment refuse parts (place.End next) = read [] next
+byFragment refuse parts (place.Item start stop delimited) = do
   (rest, after) ← parts stop
   read (record { start = start; end = stop } ∷ rest) after
 
@@ -87,15 +91,16 @@ module _ (h : Headers) where
   -- The recursion goes by a number that bounds its depth. Where it is used up the fault's number is 0, which no reading below gives
   -- (`FuelSuffices` of Theorems.antt). `left` is 16 less the level of the data set that is read, or of the sequence or OB.
   unfoldable pub fragmentsBy : ℕ → List ℕ → (left stop at : ℕ) → Reading (List Span)
-  fragmentsBy zero d left stop at = fault (answer.refused 0 at)
-  fragmentsBy (suc n) d left stop at = byFragment (fragmentsBy n d left stop) at (h .item d false true stop at)
+  fragmentsBy zero d left stop at = fault (refusal at 0)
+  fragmentsBy (suc n) d left stop at = byFragment (refusal at) (fragmentsBy n d left stop) (h .item d false true stop at)
 
   -- "elements in the items of a level n sequence are at level n+1"; tag order starts anew in each item
   unfoldable mutual
     pub elementsBy : ℕ → List ℕ → (delimited : Bool) (left stop at least : ℕ) → Reading Elements
-    elementsBy zero d delimited left stop at least = fault (answer.refused 0 at)
+    elementsBy zero d delimited left stop at least = fault (refusal at 0)
     elementsBy (suc n) d delimited left stop at least =
         byHeader
+        (refusal at)
         (λ inner end start. itemsBy n d inner left end start)
         (fragmentsBy n d left stop)
         at
@@ -103,9 +108,10 @@ module _ (h : Headers) where
         >>= byOne (λ next above. elementsBy n d delimited left stop next above)
 
     pub itemsBy : ℕ → List ℕ → (delimited : Bool) (left stop at : ℕ) → Reading Items
-    itemsBy zero d delimited left stop at = fault (answer.refused 0 at)
+    itemsBy zero d delimited left stop at = fault (refusal at 0)
     itemsBy (suc n) d delimited left stop at =
         byItem
+        (refusal at)
         (λ inner end start. elementsBy n d inner (left - 1) end start 0)
         (λ next. itemsBy n d delimited left stop next)
         at
@@ -124,7 +130,7 @@ module _ (h : Headers) where
   -- what is read at `at` in an element's place
   unfoldable pub oneAt : List ℕ → (delimited : Bool) (left stop at least : ℕ) → Reading One
   oneAt d delimited left stop at least =
-      byHeader (λ inner. itemsAt d inner left) (fragmentsAt d left stop) at (h .element d delimited left stop at least)
+      byHeader (refusal at) (λ inner. itemsAt d inner left) (fragmentsAt d left stop) at (h .element d delimited left stop at least)
 
 -- "At most 1,048,576 bytes"
 abbrev pub sizeLimit : ℕ

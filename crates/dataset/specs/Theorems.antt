@@ -7,7 +7,7 @@ use lib.ListN.{length}
 use Rattle.answer.specs.declared.Answer.{Answer}
 use Rattle.dataset.specs.Header.{itemAt}
 use Rattle.dataset.specs.Tree.{Elements}
-use Rattle.dataset.specs.Reading.{fault, read, _>>=_, explicit, byOne, byItem, byFragment, elementsBy, elementsAt, itemsAt, fragmentsAt, oneAt, levels, dataSet, WellFormed}
+use Rattle.dataset.specs.Reading.{fault, read, _>>=_, explicit, byOne, byItem, byFragment, elementsBy, elementsAt, itemsAt, fragmentsAt, oneAt, refusal, levels, dataSet, WellFormed}
 use Rattle.dataset.specs.Order.{ElementsLie}
 
 -- A well-formed data set has even length.
@@ -47,9 +47,9 @@ pub record Equations (d : List ℕ) (delimited : Bool) (left stop at : ℕ) : Ty
       ≡ (oneAt explicit d delimited left stop at least >>= byOne (elementsAt explicit d delimited left stop))
   pub items :
       itemsAt explicit d delimited left stop at
-      ≡ byItem (λ inner end start. elementsAt explicit d inner (left - 1) end start 0) (itemsAt explicit d delimited left stop) at
+      ≡ byItem (refusal at) (λ inner end start. elementsAt explicit d inner (left - 1) end start 0) (itemsAt explicit d delimited left stop) at
       (itemAt d true delimited stop at)
-  pub fragments : fragmentsAt explicit d left stop at ≡ byFragment (fragmentsAt explicit d left stop) at (itemAt d false true stop at)
+  pub fragments : fragmentsAt explicit d left stop at ≡ byFragment (refusal at) (fragmentsAt explicit d left stop) (itemAt d false true stop at)
 
 abbrev pub Unfolds : Type 0
 Unfolds = (d : List ℕ) (delimited : Bool) (left stop at : ℕ) → at ≤ stop → Equations d delimited left stop at

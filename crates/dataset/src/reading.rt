@@ -170,10 +170,10 @@ fn read_items(d: &[u8], delimited: bool, left: u32, stop: usize, from: usize) ->
     }
 }
 
-pub(crate) const SIZE_LIMIT: usize = 1048576;
+pub const SIZE_LIMIT: usize = 1048576;
 
 // How many levels of sequences may follow at the top.
-pub(crate) const LEVELS: u32 = 16;
+pub const LEVELS: u32 = 16;
 
 // Reads a data set: its first fault from the left, or number 0.
 pub fn read(d: &[u8]) -> Answer

@@ -6,6 +6,8 @@ pub const OB: u16 = 0x4F42;
 
 pub const SQ: u16 = 0x5351;
 
+pub const UN: u16 = 0x554E;
+
 // The form of a header.
 pub enum Form {
     // a two-byte length
@@ -46,7 +48,7 @@ const LONG_FORM: [u16; 6] = [
     0x4F46, // OF
     SQ,
     0x5554, // UT
-    0x554E, // UN
+    UN,
 ];
 
 // Whether the VR is in the table.

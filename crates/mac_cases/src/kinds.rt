@@ -10,13 +10,8 @@ fn not_understood() {
     print::text(b" ?\n");
 }
 
-// The bytes that a case's last field puts into the room are its data set: the first n.
-fn print_reading(room: &[u8], n: usize) {
-    if room.len() < n {
-        not_understood();
-        return;
-    }
-    let a = reading::read(&room[..n]);
+fn print_reading(d: &[u8]) {
+    let a = reading::read(d);
     print::number(a.number as u64);
     print::number(a.position as u64);
     print::text(b"\n");
@@ -25,7 +20,7 @@ fn print_reading(room: &[u8], n: usize) {
 // read DATA
 fn read_case(field: &[u8], room: &mut [u8]) {
     match bytes::put(field, room) {
-        Bytes::Good(n) => print_reading(room, n),
+        Bytes::Good(n) => print_reading(words::first(room, n)),
         Bytes::Bad => not_understood(),
     }
 }
@@ -64,15 +59,11 @@ fn yes_or_no(b: bool) {
     }
 }
 
-fn print_lookup(room: &[u8], n: usize, tag: u32) {
-    if room.len() < n {
-        not_understood();
-        return;
-    }
+fn print_lookup(d: &[u8], tag: u32) {
     let mut number: u8 = 0;
     let mut position: usize = 0;
     let mut present = false;
-    let part = lookup::lookup(&room[..n], tag, &mut number, &mut position, &mut present);
+    let part = lookup::lookup(d, tag, &mut number, &mut position, &mut present);
     print::number(number as u64);
     print::number(position as u64);
     yes_or_no(present);
@@ -88,7 +79,7 @@ fn lookup_case(tag_field: &[u8], field: &[u8], room: &mut [u8]) {
         return;
     };
     match bytes::put(field, room) {
-        Bytes::Good(n) => print_lookup(room, n, tag),
+        Bytes::Good(n) => print_lookup(words::first(room, n), tag),
         Bytes::Bad => not_understood(),
     }
 }

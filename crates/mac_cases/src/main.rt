@@ -20,14 +20,14 @@ fn run(text: &[u8], room: &mut [u8]) {
     }
 }
 
-// Runs the text with room for a data set a little over the size.
-fn run_in(text: &[u8], room: &mut [u8; 1048640]) {
-    run(text, room);
+// Reads the text of the cases and runs it, with room for a data set a little over the size.
+fn run_input(input: &mut [u8; 262144], room: &mut [u8; 1048640]) {
+    let n = io::read_full(libc::STDIN_FILENO, input);
+    run(words::first(input, n), room);
 }
 
 fn main() {
     let mut input = [0u8; 262144];
-    let n = io::read_full(libc::STDIN_FILENO, &mut input);
     let mut room = [0u8; 1048640];
-    run_in(&input[..n], &mut room);
+    run_input(&mut input, &mut room);
 }

@@ -2,6 +2,15 @@
 ghost use Prim.Native.Nat.{_≤_};
 ghost use lib.ListN.{length};
 
+// The first n bytes of s, or all of s where it has fewer.
+pub(crate) fn first(s: &[u8], n: usize) -> &[u8] {
+    if s.len() < n {
+        return s;
+    }
+    let start = 0;
+    &s[start..n]
+}
+
 // The offset of the first byte b of s from `from` on, or the end of s.
 pub(crate) fn until(s: &[u8], b: u8, from: usize) -> usize
     requires { ⌜ from ≤ length (now s) ⌝ }
