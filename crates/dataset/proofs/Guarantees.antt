@@ -11,7 +11,7 @@ use Rattle.answer.specs.declared.Answer.{Answer}
 use Rattle.dataset.specs.If.{if_then_else_}
 use Rattle.dataset.specs.Vr.{OB, SQ}
 use Rattle.dataset.specs.Header.{elementAt, itemAt}
-use Rattle.dataset.specs.Tree.{Span, Element, Elements, Items, tagOf}
+use Rattle.dataset.specs.Tree.{Span, span, Element, Elements, Items, tagOf}
 use Rattle.dataset.specs.Order.{ValueAt, NestAt, Ends, Closes, PartsLie, ElementLies, ElementsLie, ItemsLie}
 use Rattle.dataset.specs.Reading.{Reading, fault, read, _>>=_, One, ended, element, explicit, refusal, byHeader, byOne, byItem, byFragment, fragmentsBy, elementsBy, itemsBy, fragmentsAt, elementsAt, itemsAt, oneAt, sizeLimit, levels, dataSet}
 use Rattle.dataset.specs.declared.header.ElementHeader.{ElementHeader}
@@ -91,7 +91,7 @@ nest-in : (d : List ℕ) (stop at tag vr start : ℕ) → stop ≤ length d → 
 nest-in d stop at tag vr start l v =
     record { tagged = v .tagged; letters = v .letters; reserved = v .reserved; starts = v .starts; inside = omega (arith, v .inside) }
 
-span-closes : (delimited : Bool) (start n : ℕ) → start ≤ n → (delimited ≡ true → start + 8 ≤ n) → Closes (record { start = start; end = if delimited then n - 8 else n }) n
+span-closes : (delimited : Bool) (start n : ℕ) → start ≤ n → (delimited ≡ true → start + 8 ≤ n) → Closes (span start (if delimited then n - 8 else n)) n
 unfolding if_then_else_
 span-closes true start n h f = let k = f refl in record { order = omega arith; inside = omega arith }
 span-closes false start n h f = record { order = h; inside = omega arith }

@@ -12,7 +12,7 @@ use Rattle.answer.specs.Answer as answer
 use Rattle.dataset.specs.If.{if_then_else_}
 use Rattle.dataset.specs.Tree.{Element, Elements, none, and, tagOf, spanOf}
 use Rattle.dataset.specs.Order.{ElementsLie}
-use Rattle.dataset.specs.Reading.{Reading, fault, read, _>>=_, One, ended, element, explicit, byOne, elementsAt, oneAt, sizeLimit, levels, dataSet, oneOf}
+use Rattle.dataset.specs.Reading.{Reading, fault, read, _>>=_, One, ended, element, explicit, byOne, elementsAt, oneAt, sizeLimit, levels, dataSet, oneOutcomeOf}
 use Rattle.dataset.specs.Lookup.{find, absent, present, foundOf, foundIn, found, orNext}
 use Rattle.dataset.specs.declared.lookup.Found.{Found}
 use Rattle.dataset.specs.declared.reading.OneOutcome.{OneOutcome}
@@ -87,7 +87,7 @@ before-front size tag f e (read es n) k g =
     (front f (present (spanOf e .start) (spanOf e .end)) refl (eqb (tagOf e) tag) (foundOf size (find tag es)))
 
 -- ---- a turn of the loop: r is what the reader of one element answers
-module _ (d : List ℕ) (tag at least : ℕ) (r : OneOutcome) (e : r ≡ oneOf (oneAt explicit d false levels (length d) at least)) (f : Found) (i : FindLoop d tag at least f) where
+module _ (d : List ℕ) (tag at least : ℕ) (r : OneOutcome) (e : r ≡ oneOutcomeOf (oneAt explicit d false levels (length d) at least)) (f : Found) (i : FindLoop d tag at least f) where
   is : (o : Reading One) → oneAt explicit d false levels (length d) at least ≡ o
       → elementsAt explicit d false levels (length d) at least ≡ (o >>= byOne (elementsAt explicit d false levels (length d)))
   is o q = rw (elements-are explicit explicit-bounded d false levels (length d) at least (i .inside), q)

@@ -12,7 +12,7 @@ use Rattle.dataset.specs.If.{if_then_else_}
 use Rattle.dataset.specs.Vr.{OB, SQ}
 use Rattle.dataset.specs.Header.{elementAt, itemAt}
 use Rattle.dataset.specs.Tree.{Element, tagOf, vrOf, spanOf}
-use Rattle.dataset.specs.Reading.{Reading, fault, read, _>>=_, One, ended, element, explicit, refusal, byHeader, byOne, byItem, byFragment, fragmentsAt, elementsAt, itemsAt, oneAt, sizeLimit, levels, dataSet, answerOf, outcomeOf, oneOf}
+use Rattle.dataset.specs.Reading.{Reading, fault, read, _>>=_, One, ended, element, explicit, refusal, byHeader, byOne, byItem, byFragment, fragmentsAt, elementsAt, itemsAt, oneAt, sizeLimit, levels, dataSet, answerOf, outcomeOf, oneOutcomeOf}
 use Rattle.dataset.specs.declared.header.ElementHeader.{ElementHeader}
 use Rattle.dataset.specs.declared.header.ElementHeader.the-variants as header
 use Rattle.dataset.specs.declared.header.ItemHeader.{ItemHeader}
@@ -120,18 +120,18 @@ module _ (d : List ℕ) (delimited : Bool) (left stop at least : ℕ) (r : Eleme
   one-is p q = rw (sym e ∙ q)
 
   pub one-refused : (number : ℕ) (f : Answer) → r ≡ header.Refused number → f ≡ refusal at number
-      → one.Refused f ≡ oneOf (oneAt explicit d delimited left stop at least)
+      → one.Refused f ≡ oneOutcomeOf (oneAt explicit d delimited left stop at least)
   unfolding byHeader
-  one-refused number f q g = ap one.Refused g ∙ sym (ap oneOf (one-is (header.Refused number) q))
+  one-refused number f q g = ap one.Refused g ∙ sym (ap oneOutcomeOf (one-is (header.Refused number) q))
 
-  pub one-end : (next : ℕ) → r ≡ header.End next → one.End next ≡ oneOf (oneAt explicit d delimited left stop at least)
+  pub one-end : (next : ℕ) → r ≡ header.End next → one.End next ≡ oneOutcomeOf (oneAt explicit d delimited left stop at least)
   unfolding byHeader
-  one-end next q = sym (ap oneOf (one-is (header.End next) q))
+  one-end next q = sym (ap oneOutcomeOf (one-is (header.End next) q))
 
   pub one-value : (tag vr start end : ℕ) → r ≡ header.Value tag vr start end
-      → one.Element tag vr start end end ≡ oneOf (oneAt explicit d delimited left stop at least)
+      → one.Element tag vr start end end ≡ oneOutcomeOf (oneAt explicit d delimited left stop at least)
   unfolding byHeader
-  one-value tag vr start end q = sym (ap oneOf (one-is (header.Value tag vr start end) q))
+  one-value tag vr start end q = sym (ap oneOutcomeOf (one-is (header.Value tag vr start end) q))
 
   module _ (tag start end : ℕ) (inner : Bool) (q : r ≡ header.Sequence tag start end inner) where
     sequence-facts : ElementFacts d delimited left stop at least (header.Sequence tag start end inner)
@@ -147,7 +147,7 @@ module _ (d : List ℕ) (delimited : Bool) (left stop at least : ℕ) (r : Eleme
     sequence-inside = let k = sequence-facts in omega (arith, k .3, k .5)
 
     module _ (o : Outcome) (w : o ≡ outcomeOf (itemsAt explicit d inner left end start)) where
-      pub sequence-refused : (f : Answer) → o ≡ outcome.Refused f → one.Refused f ≡ oneOf (oneAt explicit d delimited left stop at least)
+      pub sequence-refused : (f : Answer) → o ≡ outcome.Refused f → one.Refused f ≡ oneOutcomeOf (oneAt explicit d delimited left stop at least)
       unfolding byHeader
       sequence-refused f x = sym (rw (one-is (header.Sequence tag start end inner) q, is-fault (itemsAt explicit d inner left end start) f (sym w ∙ x)))
 
@@ -158,7 +158,7 @@ module _ (d : List ℕ) (delimited : Bool) (left stop at least : ℕ) (r : Eleme
           omega (arith, k .1 .starts, m .0)
 
       pub sequence-read : (n v : ℕ) → o ≡ outcome.Next n → v ≡ (if inner then n - 8 else n)
-          → one.Element tag SQ start v n ≡ oneOf (oneAt explicit d delimited left stop at least)
+          → one.Element tag SQ start v n ≡ oneOutcomeOf (oneAt explicit d delimited left stop at least)
       unfolding byHeader
       sequence-read n v x y =
           let i = is-read (itemsAt explicit d inner left end start) n (sym w ∙ x) in
@@ -175,7 +175,7 @@ module _ (d : List ℕ) (delimited : Bool) (left stop at least : ℕ) (r : Eleme
     parts-inside = parts-facts .2
 
     module _ (o : Outcome) (w : o ≡ outcomeOf (fragmentsAt explicit d left stop start)) where
-      pub parts-refused : (f : Answer) → o ≡ outcome.Refused f → one.Refused f ≡ oneOf (oneAt explicit d delimited left stop at least)
+      pub parts-refused : (f : Answer) → o ≡ outcome.Refused f → one.Refused f ≡ oneOutcomeOf (oneAt explicit d delimited left stop at least)
       unfolding byHeader
       parts-refused f x = sym (rw (one-is (header.Fragments tag start) q, is-fault (fragmentsAt explicit d left stop start) f (sym w ∙ x)))
 
@@ -185,19 +185,19 @@ module _ (d : List ℕ) (delimited : Bool) (left stop at least : ℕ) (r : Eleme
           let m = fragments-next d left stop start n parts-order (sym x ∙ w) in
           omega (arith, k .1 .starts, m .0)
 
-      pub parts-read : (n : ℕ) → o ≡ outcome.Next n → one.Element tag OB start (n - 8) n ≡ oneOf (oneAt explicit d delimited left stop at least)
+      pub parts-read : (n : ℕ) → o ≡ outcome.Next n → one.Element tag OB start (n - 8) n ≡ oneOutcomeOf (oneAt explicit d delimited left stop at least)
       unfolding byHeader
       parts-read n x =
           let i = is-read (fragmentsAt explicit d left stop start) n (sym w ∙ x) in
           sym (rw (one-is (header.Fragments tag start) q, i .is))
 
 -- ---- elements: r is what the reader of one element answers
-pub is-one-fault : (p : Reading One) (f : Answer) → oneOf p ≡ one.Refused f → p ≡ fault f
+pub is-one-fault : (p : Reading One) (f : Answer) → oneOutcomeOf p ≡ one.Refused f → p ≡ fault f
 is-one-fault (fault g) f e = let q : g ≡ f = cc in ap fault q
 is-one-fault (read ended n) f e = absurd (true≢false (cc))
 is-one-fault (read (element x) n) f e = absurd (true≢false (cc))
 
-pub is-one-end : (p : Reading One) (n : ℕ) → oneOf p ≡ one.End n → p ≡ read ended n
+pub is-one-end : (p : Reading One) (n : ℕ) → oneOutcomeOf p ≡ one.End n → p ≡ read ended n
 is-one-end (fault g) n e = absurd (true≢false (cc))
 is-one-end (read ended m) n e = let q : m ≡ n = cc in ap (read ended) q
 is-one-end (read (element x) m) n e = absurd (true≢false (cc))
@@ -210,13 +210,13 @@ pub record IsElement (p : Reading One) (tag vr start end next : ℕ) : Type 0 wh
   pub starts : spanOf what .start ≡ start
   pub ends : spanOf what .end ≡ end
 
-pub is-element : (p : Reading One) (tag vr start end next : ℕ) → oneOf p ≡ one.Element tag vr start end next → IsElement p tag vr start end next
+pub is-element : (p : Reading One) (tag vr start end next : ℕ) → oneOutcomeOf p ≡ one.Element tag vr start end next → IsElement p tag vr start end next
 is-element (fault g) tag vr start end next e = absurd (true≢false (cc))
 is-element (read ended m) tag vr start end next e = absurd (true≢false (cc))
 is-element (read (element x) m) tag vr start end next e =
     let q : m ≡ next = cc in record { what = x; is = ap (read (element x)) q; tagged = cc; letters = cc; starts = cc; ends = cc }
 
-module _ (d : List ℕ) (delimited : Bool) (left stop at least : ℕ) (r : OneOutcome) (e : r ≡ oneOf (oneAt explicit d delimited left stop at least)) (h : at ≤ stop) where
+module _ (d : List ℕ) (delimited : Bool) (left stop at least : ℕ) (r : OneOutcome) (e : r ≡ oneOutcomeOf (oneAt explicit d delimited left stop at least)) (h : at ≤ stop) where
   elements-at : (o : Reading One) → oneAt explicit d delimited left stop at least ≡ o
       → elementsAt explicit d delimited left stop at least ≡ (o >>= byOne (elementsAt explicit d delimited left stop))
   elements-at o q = rw (elements-are explicit explicit-bounded d delimited left stop at least h, q)
@@ -300,12 +300,12 @@ module _ (d : List ℕ) (delimited : Bool) (stop at : ℕ) (r : ItemHeader) (e :
 
 -- ---- a whole data set
 pub data-set-is : (d : List ℕ) → length d ≤ sizeLimit → dataSet d ≡ elementsAt explicit d false levels (length d) 0 0
-unfolding dataSet
-data-set-is d h = rw (le-ltb sizeLimit (length d) h, dataSet)
+unfolding dataSet if_then_else_
+data-set-is d h = rw (le-ltb sizeLimit (length d) h)
 
 pub data-set-over : (d : List ℕ) → sizeLimit < length d → dataSet d ≡ fault (answer.refused 1 0)
-unfolding dataSet
-data-set-over d h = rw (lt-ltb sizeLimit (length d) h, dataSet)
+unfolding dataSet if_then_else_
+data-set-over d h = rw (lt-ltb sizeLimit (length d) h)
 
 pub read-over : (d : List ℕ) (f : Answer) → sizeLimit < length d → f ≡ answer.refused 1 0 → f ≡ answerOf (dataSet d)
 read-over d f h e = e ∙ sym (ap answerOf (data-set-over d h))

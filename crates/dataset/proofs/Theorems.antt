@@ -1,17 +1,21 @@
 -- The theorems that specs/Theorems.antt states. Assumes nothing.
 use Prim.Native.Nat.{ℕ, suc, _-_}
 use mathlib.Core.Path.{_≡_, refl, sym, ap, _∙_}
-use mathlib.Core.Bool.{Bool, true, false, true≢false}
+use mathlib.Core.Bool.{Bool, true, false, true≢false, false≢true}
 use mathlib.Core.List.{List}
+use mathlib.Core.Option.{Option, some}
+use mathlib.Core.Option as Opt
 use native.Mathlib.Omega.{arith}
 use lib.ListN.{length}
 use lib.Dec.{ltb}
 use borrow.Author.Tests.{ltb-true, ltb-false}
 use Rattle.answer.specs.declared.Answer.{Answer}
 use Rattle.answer.specs.Answer as answer
-use Rattle.dataset.specs.Tree.{Elements}
+use Rattle.dataset.specs.Tree.{Element, Elements}
+use Rattle.dataset.specs.Lookup.{find, foundOf, foundIn, found}
+use Rattle.dataset.proofs.LookupSteps.{found-inside}
 use Rattle.dataset.specs.Reading.{Reading, fault, read, explicit, elementsAt, sizeLimit, levels, dataSet, answerOf, WellFormed}
-use Rattle.dataset.specs.Theorems.{EvenLength, Refusal, FaultsInside, InOrder, FuelSuffices, Unfolds}
+use Rattle.dataset.specs.Theorems.{EvenLength, Refusal, FaultsInside, InOrder, FuelSuffices, Unfolds, ValueInside}
 use Rattle.dataset.proofs.Bounds.{explicit-bounded}
 use Rattle.dataset.proofs.Unfolding.{Within, FaultIn, elements-within, elements-enough, elements-are, items-are, fragments-are}
 use Rattle.dataset.proofs.Steps.{data-set-is, data-set-over}
@@ -73,3 +77,19 @@ unfolds d delimited left stop at h = record {
   items = items-are explicit explicit-bounded d delimited left stop at h;
   fragments = fragments-are explicit explicit-bounded d left stop at h;
 }
+
+pub value-inside : ValueInside
+unfolding found foundIn foundOf
+value-inside d tag = record { inside = found-inside d tag (found d tag) refl; stands = go (dataSet d); otherwise = other (dataSet d) }
+  where
+    go : (p : Reading Elements) → foundIn (length d) tag p .present ≡ true → answerOf p ≡ answer.accepted 0
+    go (fault f) e = absurd (false≢true e)
+    go (read es n) e = refl
+
+    missing : (o : Option Element) → foundOf (length d) o .present ≡ false → (foundOf (length d) o .start ≡ length d) × (foundOf (length d) o .length ≡ 0)
+    missing Opt.none e = (refl, refl)
+    missing (some x) e = absurd (true≢false e)
+
+    other : (p : Reading Elements) → foundIn (length d) tag p .present ≡ false → (foundIn (length d) tag p .start ≡ length d) × (foundIn (length d) tag p .length ≡ 0)
+    other (fault f) e = (refl, refl)
+    other (read es n) e = missing (find tag es) e

@@ -10,7 +10,7 @@ use Rattle.answer.specs.declared.Answer.{Answer}
 use Rattle.answer.specs.Answer as answer
 use Rattle.dataset.specs.If.{if_then_else_}
 use Rattle.dataset.specs.Header.{elementAt, itemAt}
-use Rattle.dataset.specs.Tree.{Span, Element, value, sequence, fragments, Elements, none, and, Items, last, item, tagOf, vrOf, spanOf}
+use Rattle.dataset.specs.Tree.{Span, span, Element, value, sequence, fragments, Elements, none, and, Items, last, item, tagOf, vrOf, spanOf}
 use Rattle.dataset.specs.declared.header.ElementHeader.{ElementHeader}
 use Rattle.dataset.specs.declared.header.ElementHeader.the-variants as header
 use Rattle.dataset.specs.declared.header.ItemHeader.{ItemHeader}
@@ -49,29 +49,30 @@ explicit = record { element = elementAt; item = itemAt }
 abbrev pub refusal : (at number : ℕ) → Answer
 refusal at number = answer.refused number at
 
--- One element, by its header. Handed in are the refusal of each number here, the reader of its items (to a delimiter or not, up to an
--- offset, from an offset on) and that of its fragments (from an offset on). A closing delimiter, of 8 bytes, is no part of the value.
-unfoldable pub byHeader : (refuse : ℕ → Answer) (items : Bool → ℕ → ℕ → Reading Items) (parts : ℕ → Reading (List Span)) (at : ℕ) → ElementHeader → Reading One
+-- One element, by its header. Handed in are the refusal of each number here, and the readers of its items and of its fragments.
+-- A closing delimiter, of 8 bytes, is no part of the value.
+unfoldable pub byHeader : (refuse : (number : ℕ) → Answer) (items : (delimited : Bool) (stop start : ℕ) → Reading Items)
+    (parts : (start : ℕ) → Reading (List Span)) (at : ℕ) → ElementHeader → Reading One
 byHeader refuse items parts at (header.Refused number) = fault (refuse number)
 byHeader refuse items parts at (header.End next) = read ended next
-byHeader refuse items parts at (header.Value tag vr start stop) = read (element (value at tag vr (record { start = start; end = stop }))) stop
+byHeader refuse items parts at (header.Value tag vr start stop) = read (element (value at tag vr (span start stop))) stop
 byHeader refuse items parts at (header.Sequence tag start stop delimited) = do
   (inside, next) ← items delimited stop start
-  read (element (sequence at tag (record { start = start; end = if delimited then next - 8 else next }) inside)) next
+  read (element (sequence at tag (span start (if delimited then next - 8 else next)) inside)) next
 byHeader refuse items parts at (header.Fragments tag start) = do
   (inside, next) ← parts start
-  read (element (fragments at tag (record { start = start; end = next - 8 }) inside)) next
+  read (element (fragments at tag (span start (next - 8)) inside)) next
 
--- The elements of a data set are one element and the rest. Handed in is the reader of the rest: from an offset on, with the least tag.
-unfoldable pub byOne : (elements : ℕ → ℕ → Reading Elements) → One × ℕ → Reading Elements
+-- The elements of a data set are one element and the rest. Handed in is the reader of the rest, with the least tag.
+unfoldable pub byOne : (elements : (next least : ℕ) → Reading Elements) → One × ℕ → Reading Elements
 byOne elements (ended, next) = read none next
 byOne elements (element e, next) = do
   (rest, after) ← elements next (tagOf e + 1)
   read (and e rest) after
 
--- Items are one item and the rest. Handed in are the refusal of each number here, the reader of an item's elements (to a delimiter or not, up to an offset, from an
--- offset on) and that of the rest.
-unfoldable pub byItem : (refuse : ℕ → Answer) (elements : Bool → ℕ → ℕ → Reading Elements) (items : ℕ → Reading Items) (at : ℕ) → ItemHeader → Reading Items
+-- Items are one item and the rest. Handed in are the refusal of each number here, and the readers of an item's elements and of the rest.
+unfoldable pub byItem : (refuse : (number : ℕ) → Answer) (elements : (delimited : Bool) (stop start : ℕ) → Reading Elements)
+    (items : (next : ℕ) → Reading Items) (at : ℕ) → ItemHeader → Reading Items
 byItem refuse elements items at (place.Refused number) = fault (refuse number)
 byItem refuse elements items at (place.End next) = read last next
 byItem refuse elements items at (place.Item start stop delimited) = do
@@ -80,16 +81,17 @@ byItem refuse elements items at (place.Item start stop delimited) = do
   read (item at inside rest) after
 
 -- Fragments are one fragment and the rest: "Their bytes aren't looked into".
-unfoldable pub byFragment : (refuse : ℕ → Answer) (parts : ℕ → Reading (List Span)) → ItemHeader → Reading (List Span)
+unfoldable pub byFragment : (refuse : (number : ℕ) → Answer) (parts : (next : ℕ) → Reading (List Span)) → ItemHeader → Reading (List Span)
 byFragment refuse parts (place.Refused number) = fault (refuse number)
 byFragment refuse parts (place.End next) = read [] next
 byFragment refuse parts (place.Item start stop delimited) = do
   (rest, after) ← parts stop
-  read (record { start = start; end = stop } ∷ rest) after
+  read (span start stop ∷ rest) after
 
 module _ (h : Headers) where
-  -- The recursion goes by a number that bounds its depth. Where it is used up the fault's number is 0, which no reading below gives
-  -- (`FuelSuffices` of Theorems.antt). `left` is 16 less the level of the data set that is read, or of the sequence or OB.
+  -- The recursion goes by a number that bounds its depth. Where it is used up the fault's number is 0, which `elementsAt` and the others
+  -- below never give (`FuelSuffices` and `FaultsInside` of Theorems.antt). `left` is 16 less the level: that of the data set that is read,
+  -- or that of the sequence or OB.
   unfoldable pub fragmentsBy : ℕ → List ℕ → (left stop at : ℕ) → Reading (List Span)
   fragmentsBy zero d left stop at = fault (refusal at 0)
   fragmentsBy (suc n) d left stop at = byFragment (refusal at) (fragmentsBy n d left stop) (h .item d false true stop at)
@@ -140,9 +142,9 @@ sizeLimit = 1048576
 abbrev pub levels : ℕ
 levels = 16
 
--- the reading of a whole data set: "1: data set over the size", before anything is read; "it may be empty"
+-- the reading of a whole data set, which "may be empty"; over the size it is 1, before anything is read
 unfoldable pub dataSet : List ℕ → Reading Elements
-dataSet d = elim (ltb sizeLimit (length d)) [ true ↦ fault (answer.refused 1 0) | false ↦ elementsAt explicit d false levels (length d) 0 0 ]
+dataSet d = if ltb sizeLimit (length d) then fault (answer.refused 1 0) else elementsAt explicit d false levels (length d) 0 0
 
 -- the answer to the caller: the fault, or number 0
 abbrev pub answerOf : {A : Type 0} → Reading A → Answer
@@ -161,7 +163,7 @@ outcomeOf (fault f) = outcome.Refused f
 outcomeOf (read a next) = outcome.Next next
 
 -- the fault, the end, or an element with what the tree has of it beside its inside
-abbrev pub oneOf : Reading One → OneOutcome
-oneOf (fault f) = one.Refused f
-oneOf (read ended next) = one.End next
-oneOf (read (element e) next) = one.Element (tagOf e) (vrOf e) (spanOf e .start) (spanOf e .end) next
+abbrev pub oneOutcomeOf : Reading One → OneOutcome
+oneOutcomeOf (fault f) = one.Refused f
+oneOutcomeOf (read ended next) = one.End next
+oneOutcomeOf (read (element e) next) = one.Element (tagOf e) (vrOf e) (spanOf e .start) (spanOf e .end) next

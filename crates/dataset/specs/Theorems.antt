@@ -1,5 +1,5 @@
 -- What is true of the reading: statements that a reader of the definitions would ask for, each proved in proofs/Theorems.antt. Assumes nothing.
-use Prim.Native.Nat.{ℕ, _-_, _%_, _≤_, _<_}
+use Prim.Native.Nat.{ℕ, _+_, _-_, _%_, _≤_, _<_}
 use mathlib.Core.Path.{_≡_}
 use mathlib.Core.Bool.{Bool, true, false}
 use mathlib.Core.List.{List}
@@ -8,6 +8,8 @@ use Rattle.answer.specs.declared.Answer.{Answer}
 use Rattle.dataset.specs.Header.{itemAt}
 use Rattle.dataset.specs.Tree.{Elements}
 use Rattle.dataset.specs.Reading.{fault, read, _>>=_, explicit, byOne, byItem, byFragment, elementsBy, elementsAt, itemsAt, fragmentsAt, oneAt, refusal, levels, dataSet, WellFormed}
+use Rattle.dataset.specs.Lookup.{found}
+use Rattle.dataset.specs.declared.lookup.Found.{Found}
 use Rattle.dataset.specs.Order.{ElementsLie}
 
 -- A well-formed data set has even length.
@@ -53,3 +55,12 @@ pub record Equations (d : List ℕ) (delimited : Bool) (left stop at : ℕ) : Ty
 
 abbrev pub Unfolds : Type 0
 Unfolds = (d : List ℕ) (delimited : Bool) (left stop at : ℕ) → at ≤ stop → Equations d delimited left stop at
+
+-- What the lookup finds lies in the data set. The tag stands only in a well-formed data set, and elsewhere the part is the empty one at the end.
+pub record FoundInside (d : List ℕ) (f : Found) : Type 0 where
+  pub inside : f .start + f .length ≤ length d
+  pub stands : f .present ≡ true → WellFormed d
+  pub otherwise : f .present ≡ false → (f .start ≡ length d) × (f .length ≡ 0)
+
+abbrev pub ValueInside : Type 0
+ValueInside = (d : List ℕ) (tag : ℕ) → FoundInside d (found d tag)

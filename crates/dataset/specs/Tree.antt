@@ -9,6 +9,9 @@ pub record Span : Type 0 where
   pub start : ℕ
   pub end : ℕ
 
+abbrev pub span : (start end : ℕ) → Span
+span start end = record { start = start; end = end }
+
 -- An element has the offset of its header, its tag, and where its value lies, without a closing delimiter. An item has the offset of its header.
 mutual
   pub data Element : Type 0 where

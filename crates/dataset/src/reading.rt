@@ -9,7 +9,7 @@ ghost use mathlib.Core.Path.{_≡_};
 ghost use Prim.Native.Nat.{_-_, _<_, _≤_};
 ghost use lib.ListN.{length};
 ghost use Rattle.dataset.specs.If.{if_then_else_};
-ghost use Rattle.dataset.specs.Reading.{explicit, elementsAt, itemsAt, fragmentsAt, oneAt, outcomeOf, oneOf, answerOf, dataSet};
+ghost use Rattle.dataset.specs.Reading.{explicit, elementsAt, itemsAt, fragmentsAt, oneAt, outcomeOf, oneOutcomeOf, answerOf, dataSet};
 
 // What a reader answers: the first fault, or the offset past what it read.
 pub enum Outcome {
@@ -72,7 +72,7 @@ pub fn read_one(
     at: usize,
     least: u64,
 ) -> OneOutcome
-    ensures { λ r. ⌜ r ≡ oneOf (oneAt explicit (now (d .entry)) delimited left stop at least) ⌝ }
+    ensures { λ r. ⌜ r ≡ oneOutcomeOf (oneAt explicit (now (d .entry)) delimited left stop at least) ⌝ }
 {
     match header::header(d, delimited, left, stop, at, least) {
         ElementHeader::Refused(number) => OneOutcome::Refused(Answer::refused(number, at)),
