@@ -1,6 +1,8 @@
 pub mod Checks
 pub mod Bounds
 pub mod Unfolding
+pub mod Outcomes
+pub mod OneSteps
 pub mod Steps
 pub mod Guarantees
 pub mod Order

@@ -19,7 +19,8 @@ use Rattle.dataset.specs.declared.reading.OneOutcome.{OneOutcome}
 use Rattle.dataset.specs.declared.reading.OneOutcome.the-variants as one
 use Rattle.dataset.proofs.Bounds.{explicit-bounded}
 use Rattle.dataset.proofs.Unfolding.{elements-are}
-use Rattle.dataset.proofs.Steps.{IsElement, is-element, is-one-fault, is-one-end, one-past, data-set-is, data-set-over}
+use Rattle.dataset.proofs.Outcomes.{IsElement, is-element, is-one-fault, is-one-end}
+use Rattle.dataset.proofs.Steps.{one-past, data-set-is, data-set-over}
 use Rattle.dataset.proofs.Guarantees.{holds-read, OneIs, ElementIn, one-read, data-set-read}
 use Rattle.dataset.proofs.Order.{span-inside}
 

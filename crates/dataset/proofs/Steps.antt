@@ -1,7 +1,8 @@
--- What each place of the readers does, with the facts of the place as premises: `search` applies these laws where the code has the facts. Assumes nothing.
-use Prim.Native.Nat.{ℕ, suc, _+_, _-_, _≤_, _<_}
+-- What each turn of the readers' loops does, with the facts of the place as premises: `search` applies these laws where the code has the facts.
+-- Assumes nothing.
+use Prim.Native.Nat.{ℕ, _+_, _-_, _≤_, _<_}
 use mathlib.Core.Path.{_≡_, refl, sym, ap, _∙_}
-use mathlib.Core.Bool.{Bool, true, false, true≢false}
+use mathlib.Core.Bool.{Bool, true, false}
 use mathlib.Core.List.{List}
 use native.Mathlib.Omega.{arith}
 use lib.ListN.{length}
@@ -9,64 +10,18 @@ use borrow.Author.Tests.{lt-ltb, le-ltb}
 use Rattle.answer.specs.declared.Answer.{Answer}
 use Rattle.answer.specs.Answer as answer
 use Rattle.dataset.specs.If.{if_then_else_}
-use Rattle.dataset.specs.Vr.{OB, SQ}
-use Rattle.dataset.specs.Header.{elementAt, itemAt}
-use Rattle.dataset.specs.Tree.{Element, tagOf, vrOf, spanOf}
-use Rattle.dataset.specs.Reading.{Reading, fault, read, _>>=_, One, ended, element, explicit, refusal, byHeader, byOne, byItem, byFragment, fragmentsAt, elementsAt, itemsAt, oneAt, sizeLimit, levels, dataSet, answerOf, outcomeOf, oneOutcomeOf}
-use Rattle.dataset.specs.declared.header.ElementHeader.{ElementHeader}
-use Rattle.dataset.specs.declared.header.ElementHeader.the-variants as header
+use Rattle.dataset.specs.Header.{itemAt}
+use Rattle.dataset.specs.Tree.{Element}
+use Rattle.dataset.specs.Reading.{Reading, fault, read, _>>=_, One, ended, element, explicit, refusal, byOne, byItem, byFragment, fragmentsAt, elementsAt, itemsAt, oneAt, sizeLimit, levels, dataSet, answerOf, outcomeOf, oneOutcomeOf}
 use Rattle.dataset.specs.declared.header.ItemHeader.{ItemHeader}
 use Rattle.dataset.specs.declared.header.ItemHeader.the-variants as place
 use Rattle.dataset.specs.declared.reading.Outcome.{Outcome}
 use Rattle.dataset.specs.declared.reading.Outcome.the-variants as outcome
 use Rattle.dataset.specs.declared.reading.OneOutcome.{OneOutcome}
 use Rattle.dataset.specs.declared.reading.OneOutcome.the-variants as one
-use Rattle.dataset.proofs.Bounds.{ElementFacts, ItemFacts, element-facts, item-facts, explicit-bounded}
-use Rattle.dataset.proofs.Unfolding.{Within, OneIn, fragments-within, elements-within, items-within, one-in, fragments-are, elements-are, items-are}
-
--- ---- what a reader answers of one reading after another
-pub last : {A B : Type 0} (p : Reading A) (k : A × ℕ → Reading B) → ((a : A) (n : ℕ) → outcomeOf (k (a, n)) ≡ outcome.Next n) → outcomeOf (p >>= k) ≡ outcomeOf p
-last (fault f) k g = refl
-last (read a n) k g = g a n
-
-pub then-next : {A B : Type 0} (p : Reading A) (k : A × ℕ → Reading B) (n : ℕ) (r : Outcome) → outcomeOf p ≡ outcome.Next n → ((a : A) → outcomeOf (k (a, n)) ≡ r) → outcomeOf (p >>= k) ≡ r
-then-next (fault f) k n r e g = absurd (true≢false (cc))
-then-next (read a m) k n r e g = let q : m ≡ n = cc in rw q (g a)
-
-pub is-fault : {A : Type 0} (p : Reading A) (f : Answer) → outcomeOf p ≡ outcome.Refused f → p ≡ fault f
-is-fault (fault g) f e = let q : g ≡ f = cc in ap fault q
-is-fault (read a m) f e = absurd (true≢false (cc))
-
-pub record IsRead {A : Type 0} (p : Reading A) (n : ℕ) : Type 0 where
-  pub what : A
-  pub is : p ≡ read what n
-
-pub is-read : {A : Type 0} (p : Reading A) (n : ℕ) → outcomeOf p ≡ outcome.Next n → IsRead p n
-is-read (fault g) n e = absurd (true≢false (cc))
-is-read (read a m) n e = let q : m ≡ n = cc in record { what = a; is = ap (read a) q }
-
-pub next-within : {A : Type 0} (lo hi n : ℕ) (p : Reading A) → Within lo hi p → outcomeOf p ≡ outcome.Next n → (lo ≤ n) × (n ≤ hi)
-next-within lo hi n (fault f) w e = absurd (true≢false (cc))
-next-within lo hi n (read a m) w e = let q : m ≡ n = cc in rw (← q) w
-
-module _ (d : List ℕ) (left stop at n : ℕ) (h : at ≤ stop) where
-  pub fragments-next : outcome.Next n ≡ outcomeOf (fragmentsAt explicit d left stop at) → (at ≤ n) × (n ≤ stop)
-  unfolding fragmentsAt
-  fragments-next e =
-      next-within at stop n (fragmentsAt explicit d left stop at)
-      (fragments-within explicit explicit-bounded (suc (stop - at)) d left stop at h (omega arith)) (sym e)
-
-  pub items-next : (delimited : Bool) → outcome.Next n ≡ outcomeOf (itemsAt explicit d delimited left stop at) → (at ≤ n) × (n ≤ stop)
-  unfolding itemsAt
-  items-next delimited e =
-      next-within at stop n (itemsAt explicit d delimited left stop at)
-      (items-within explicit explicit-bounded (suc (stop - at)) d delimited left stop at h (omega arith)) (sym e)
-
-  pub elements-next : (delimited : Bool) (least : ℕ) → outcome.Next n ≡ outcomeOf (elementsAt explicit d delimited left stop at least) → (at ≤ n) × (n ≤ stop)
-  unfolding elementsAt
-  elements-next delimited least e =
-      next-within at stop n (elementsAt explicit d delimited left stop at least)
-      (elements-within explicit explicit-bounded (suc (stop - at)) d delimited left stop at least h (omega arith)) (sym e)
+use Rattle.dataset.proofs.Bounds.{ItemFacts, item-facts, explicit-bounded}
+use Rattle.dataset.proofs.Unfolding.{OneIn, one-in, fragments-are, elements-are, items-are}
+use Rattle.dataset.proofs.Outcomes.{last, then-next, is-fault, is-read, elements-next, is-one-fault, is-one-end, IsElement, is-element}
 
 -- ---- the loops' invariants: `at` lies in the extent, and what is read from `from` on is answered as what is read from `at` on
 pub record FragmentsLoop (d : List ℕ) (left stop from at : ℕ) : Type 0 where
@@ -109,113 +64,7 @@ module _ (d : List ℕ) (stop at : ℕ) (r : ItemHeader) (e : r ≡ itemAt d fal
       same = i .same ∙ rw (fragments-at (place.Item start end inner) q) (last (fragmentsAt explicit d left stop end) _ λ a n. refl);
     }
 
--- ---- one element: r is what stands at `at`, and o what the reader of its inside answers
-module _ (d : List ℕ) (delimited : Bool) (left stop at least : ℕ) (r : ElementHeader) (e : r ≡ elementAt d delimited left stop at least) where
-  element-at : (p : ElementHeader) → r ≡ p → ElementFacts d delimited left stop at least p
-  element-at p q = rw (sym e ∙ q) at (element-facts d delimited left stop at least)
-
-  one-is : (p : ElementHeader) → r ≡ p → oneAt explicit d delimited left stop at least
-      ≡ byHeader (refusal at) (λ inner. itemsAt explicit d inner left) (fragmentsAt explicit d left stop) at p
-  unfolding oneAt
-  one-is p q = rw (sym e ∙ q)
-
-  pub one-refused : (number : ℕ) (f : Answer) → r ≡ header.Refused number → f ≡ refusal at number
-      → one.Refused f ≡ oneOutcomeOf (oneAt explicit d delimited left stop at least)
-  unfolding byHeader
-  one-refused number f q g = ap one.Refused g ∙ sym (ap oneOutcomeOf (one-is (header.Refused number) q))
-
-  pub one-end : (next : ℕ) → r ≡ header.End next → one.End next ≡ oneOutcomeOf (oneAt explicit d delimited left stop at least)
-  unfolding byHeader
-  one-end next q = sym (ap oneOutcomeOf (one-is (header.End next) q))
-
-  pub one-value : (tag vr start end : ℕ) → r ≡ header.Value tag vr start end
-      → one.Element tag vr start end end ≡ oneOutcomeOf (oneAt explicit d delimited left stop at least)
-  unfolding byHeader
-  one-value tag vr start end q = sym (ap oneOutcomeOf (one-is (header.Value tag vr start end) q))
-
-  module _ (tag start end : ℕ) (inner : Bool) (q : r ≡ header.Sequence tag start end inner) where
-    sequence-facts : ElementFacts d delimited left stop at least (header.Sequence tag start end inner)
-    sequence-facts = element-at (header.Sequence tag start end inner) q
-
-    pub sequence-level : 0 < left
-    sequence-level = sequence-facts .4
-
-    pub sequence-order : start ≤ end
-    sequence-order = sequence-facts .2
-
-    pub sequence-inside : end ≤ length d
-    sequence-inside = let k = sequence-facts in omega (arith, k .3, k .5)
-
-    module _ (o : Outcome) (w : o ≡ outcomeOf (itemsAt explicit d inner left end start)) where
-      pub sequence-refused : (f : Answer) → o ≡ outcome.Refused f → one.Refused f ≡ oneOutcomeOf (oneAt explicit d delimited left stop at least)
-      unfolding byHeader
-      sequence-refused f x = sym (rw (one-is (header.Sequence tag start end inner) q, is-fault (itemsAt explicit d inner left end start) f (sym w ∙ x)))
-
-      pub sequence-past : (n : ℕ) → o ≡ outcome.Next n → 8 ≤ n
-      sequence-past n x =
-          let k = sequence-facts in
-          let m = items-next d left end start n sequence-order inner (sym x ∙ w) in
-          omega (arith, k .1 .starts, m .0)
-
-      pub sequence-read : (n v : ℕ) → o ≡ outcome.Next n → v ≡ (if inner then n - 8 else n)
-          → one.Element tag SQ start v n ≡ oneOutcomeOf (oneAt explicit d delimited left stop at least)
-      unfolding byHeader
-      sequence-read n v x y =
-          let i = is-read (itemsAt explicit d inner left end start) n (sym w ∙ x) in
-          sym (rw (one-is (header.Sequence tag start end inner) q, i .is, y))
-
-  module _ (tag start : ℕ) (q : r ≡ header.Fragments tag start) where
-    parts-facts : ElementFacts d delimited left stop at least (header.Fragments tag start)
-    parts-facts = element-at (header.Fragments tag start) q
-
-    pub parts-order : start ≤ stop
-    parts-order = parts-facts .1 .inside
-
-    pub parts-inside : stop ≤ length d
-    parts-inside = parts-facts .2
-
-    module _ (o : Outcome) (w : o ≡ outcomeOf (fragmentsAt explicit d left stop start)) where
-      pub parts-refused : (f : Answer) → o ≡ outcome.Refused f → one.Refused f ≡ oneOutcomeOf (oneAt explicit d delimited left stop at least)
-      unfolding byHeader
-      parts-refused f x = sym (rw (one-is (header.Fragments tag start) q, is-fault (fragmentsAt explicit d left stop start) f (sym w ∙ x)))
-
-      pub parts-past : (n : ℕ) → o ≡ outcome.Next n → 8 ≤ n
-      parts-past n x =
-          let k = parts-facts in
-          let m = fragments-next d left stop start n parts-order (sym x ∙ w) in
-          omega (arith, k .1 .starts, m .0)
-
-      pub parts-read : (n : ℕ) → o ≡ outcome.Next n → one.Element tag OB start (n - 8) n ≡ oneOutcomeOf (oneAt explicit d delimited left stop at least)
-      unfolding byHeader
-      parts-read n x =
-          let i = is-read (fragmentsAt explicit d left stop start) n (sym w ∙ x) in
-          sym (rw (one-is (header.Fragments tag start) q, i .is))
-
 -- ---- elements: r is what the reader of one element answers
-pub is-one-fault : (p : Reading One) (f : Answer) → oneOutcomeOf p ≡ one.Refused f → p ≡ fault f
-is-one-fault (fault g) f e = let q : g ≡ f = cc in ap fault q
-is-one-fault (read ended n) f e = absurd (true≢false (cc))
-is-one-fault (read (element x) n) f e = absurd (true≢false (cc))
-
-pub is-one-end : (p : Reading One) (n : ℕ) → oneOutcomeOf p ≡ one.End n → p ≡ read ended n
-is-one-end (fault g) n e = absurd (true≢false (cc))
-is-one-end (read ended m) n e = let q : m ≡ n = cc in ap (read ended) q
-is-one-end (read (element x) m) n e = absurd (true≢false (cc))
-
-pub record IsElement (p : Reading One) (tag vr start end next : ℕ) : Type 0 where
-  pub what : Element
-  pub is : p ≡ read (element what) next
-  pub tagged : tagOf what ≡ tag
-  pub letters : vrOf what ≡ vr
-  pub starts : spanOf what .start ≡ start
-  pub ends : spanOf what .end ≡ end
-
-pub is-element : (p : Reading One) (tag vr start end next : ℕ) → oneOutcomeOf p ≡ one.Element tag vr start end next → IsElement p tag vr start end next
-is-element (fault g) tag vr start end next e = absurd (true≢false (cc))
-is-element (read ended m) tag vr start end next e = absurd (true≢false (cc))
-is-element (read (element x) m) tag vr start end next e =
-    let q : m ≡ next = cc in record { what = x; is = ap (read (element x)) q; tagged = cc; letters = cc; starts = cc; ends = cc }
-
 module _ (d : List ℕ) (delimited : Bool) (left stop at least : ℕ) (r : OneOutcome) (e : r ≡ oneOutcomeOf (oneAt explicit d delimited left stop at least)) (h : at ≤ stop) where
   elements-at : (o : Reading One) → oneAt explicit d delimited left stop at least ≡ o
       → elementsAt explicit d delimited left stop at least ≡ (o >>= byOne (elementsAt explicit d delimited left stop))

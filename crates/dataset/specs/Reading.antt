@@ -1,6 +1,6 @@
 -- The reading of a data set: "The first fault from the left is given, at the offset where that element's, item's or delimiter's header starts"
 -- (01, "Reading the data set"), or the tree of its elements. Assumes nothing.
-use Prim.Native.Nat.{ℕ, zero, suc, _+_, _-_}
+use Prim.Native.Nat.{ℕ, zero, suc, _+_, _-_, _≤_}
 use mathlib.Core.Bool.{Bool, true, false}
 use mathlib.Core.List.{List, [], _∷_}
 use mathlib.Core.Path.{_≡_}
@@ -167,3 +167,13 @@ abbrev pub oneOutcomeOf : Reading One → OneOutcome
 oneOutcomeOf (fault f) = one.Refused f
 oneOutcomeOf (read ended next) = one.End next
 oneOutcomeOf (read (element e) next) = one.Element (tagOf e) (vrOf e) (spanOf e .start) (spanOf e .end) next
+
+-- ---- no part of what a reader must believe, for an inner contract: an element that holds items or fragments, by what their reader answers
+
+abbrev pub PastDelimiter : Outcome → Type 0
+PastDelimiter (outcome.Refused f) = Unit {0}
+PastDelimiter (outcome.Next next) = 8 ≤ next
+
+unfoldable pub holdingOf : (tag vr start : ℕ) (delimited : Bool) → Outcome → OneOutcome
+holdingOf tag vr start delimited (outcome.Refused f) = one.Refused f
+holdingOf tag vr start delimited (outcome.Next next) = one.Element tag vr start (if delimited then next - 8 else next) next

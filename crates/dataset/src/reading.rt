@@ -6,10 +6,9 @@ use crate::header::ItemHeader;
 use crate::vr;
 use answer::Answer;
 ghost use mathlib.Core.Path.{_≡_};
-ghost use Prim.Native.Nat.{_-_, _<_, _≤_};
+ghost use Prim.Native.Nat.{_<_, _≤_};
 ghost use lib.ListN.{length};
-ghost use Rattle.dataset.specs.If.{if_then_else_};
-ghost use Rattle.dataset.specs.Reading.{explicit, elementsAt, itemsAt, fragmentsAt, oneAt, outcomeOf, oneOutcomeOf, answerOf, dataSet};
+ghost use Rattle.dataset.specs.Reading.{explicit, elementsAt, itemsAt, fragmentsAt, oneAt, outcomeOf, oneOutcomeOf, PastDelimiter, holdingOf, answerOf, dataSet};
 
 // What a reader answers: the first fault, or the offset past what it read.
 pub enum Outcome {
@@ -52,15 +51,32 @@ fn read_fragments(d: &[u8], left: u32, stop: usize, from: usize) -> Outcome
     }
 }
 
-// The end of a sequence's value, where `next` is the offset past the sequence: a closing delimiter takes 8 bytes.
-fn value_end(delimited: bool, next: usize) -> usize
-    requires { ⌜ 8 ≤ next ⌝ }
-    ensures { λ r. ⌜ r ≡ (if delimited then next - 8 else next) ⌝ }
+// An element that holds items or fragments, by what their reader answers: its value ends before a closing delimiter of 8 bytes.
+fn holding(tag: u32, vr: u16, start: usize, delimited: bool, inside: Outcome) -> OneOutcome
+    requires { ⌜ PastDelimiter inside ⌝ }
+    ensures { λ r. ⌜ r ≡ holdingOf tag vr start delimited inside ⌝ }
 {
-    if delimited {
-        return next - 8;
+    match inside {
+        Outcome::Refused(fault) => OneOutcome::Refused(fault),
+        Outcome::Next(next) => {
+            if delimited {
+                return OneOutcome::Element {
+                    tag,
+                    vr,
+                    start,
+                    end: next - 8,
+                    next,
+                };
+            }
+            OneOutcome::Element {
+                tag,
+                vr,
+                start,
+                end: next,
+                next,
+            }
+        }
     }
-    next
 }
 
 // Reads what stands at `at` in an element's place: its header, and its items or fragments.
@@ -95,28 +111,12 @@ pub fn read_one(
             end,
             delimited: inner,
         } => {
-            match read_items(d, inner, left, end, start) {
-                Outcome::Refused(fault) => OneOutcome::Refused(fault),
-                Outcome::Next(next) => OneOutcome::Element {
-                    tag,
-                    vr: vr::SQ,
-                    start,
-                    end: value_end(inner, next),
-                    next,
-                },
-            }
+            let items = read_items(d, inner, left, end, start);
+            holding(tag, vr::SQ, start, inner, items)
         }
         ElementHeader::Fragments { tag, start } => {
-            match read_fragments(d, left, stop, start) {
-                Outcome::Refused(fault) => OneOutcome::Refused(fault),
-                Outcome::Next(next) => OneOutcome::Element {
-                    tag,
-                    vr: vr::OB,
-                    start,
-                    end: next - 8,
-                    next,
-                },
-            }
+            let fragments = read_fragments(d, left, stop, start);
+            holding(tag, vr::OB, start, true, fragments)
         }
     }
 }

@@ -4,6 +4,7 @@ use borrow.Author.Needs.{needs}
 use Prim.Native.Nat.{ℕ, _+_, _-_, _*_, _<_}
 use mathlib.Core.Path.{refl}
 use Rattle.dataset.proofs.Steps as steps
+use Rattle.dataset.proofs.OneSteps as one
 use borrow.Fn.Kinds.{In}
 use borrow.Fn.PlainCycle.{Measures, is, falls, and}
 use Rattle.dataset.proofs.reading.read_elements.Reads as read-elements
@@ -18,8 +19,8 @@ use Rattle.dataset.proofs.reading.+read_elements+read_items+read_one.Lt
 use Rattle.answer.proofs.Answer.refused.Reads as refused-reads
 use Rattle.dataset.proofs.header.header.Reads as header-reads
 use Rattle.dataset.proofs.header.item_header.Reads as item-header-reads
+use Rattle.dataset.proofs.reading.holding.Reads as holding-reads
 use Rattle.dataset.proofs.reading.read_fragments.Reads as read-fragments-reads
-use Rattle.dataset.proofs.reading.value_end.Reads as value-end-reads
 use Rattle.dataset.proofs.reading.+read_elements+read_items+read_one.{statement}
 use Rattle.dataset.proofs.reading.+read_elements+read_items+read_one.Tie.{close}
 
@@ -70,7 +71,7 @@ read-items-claims t =
 
 abbrev read-one-claims : ℕ → read-one-lts.Claims
 read-one-claims t =
-    (header-reads.Asked, header-reads.Learnt, refused-reads.Asked, refused-reads.Learnt, read-items-below t, read-items.Post, value-end-reads.Asked, value-end-reads.Learnt, read-fragments-reads.Asked, read-fragments-reads.Learnt)
+    (header-reads.Asked, header-reads.Learnt, refused-reads.Asked, refused-reads.Learnt, read-items-below t, read-items.Post, holding-reads.Asked, holding-reads.Learnt, read-fragments-reads.Asked, read-fragments-reads.Learnt)
 
 abbrev read-elements-Inv-loop : read-elements-lts.InvT-loop
 read-elements-Inv-loop d delimited left stop from at₀ least₀ at least = steps.ElementsLoop d delimited left stop from at least
@@ -181,52 +182,34 @@ read-one-enum-known-tag-2 : (t : ℕ) → read-one-lts.Need-enum-known-tag-2 (re
 read-one-enum-known-tag-2 t c = search needs
 
 read-one-read-items-requires : (t : ℕ) → read-one-lts.Need-read-items-requires (read-one-claims t) (read-one-at t) read-one.Post
-read-one-read-items-requires t c κs = search (steps.sequence-level, steps.sequence-order, steps.sequence-inside, needs)
+read-one-read-items-requires t c κs = search (one.sequence-level, one.sequence-order, one.sequence-inside, needs)
 
-read-one-enum-known-fault : (t : ℕ) → read-one-lts.Need-enum-known-fault (read-one-claims t) (read-one-at t) read-one.Post
-read-one-enum-known-fault t c = search needs
-
-read-one-enum-known-next-2 : (t : ℕ) → read-one-lts.Need-enum-known-next-2 (read-one-claims t) (read-one-at t) read-one.Post
-read-one-enum-known-next-2 t c = search needs
-
-read-one-value-end-requires : (t : ℕ) → read-one-lts.Need-value-end-requires (read-one-claims t) (read-one-at t) read-one.Post
-read-one-value-end-requires t c κs = search steps.sequence-past
+read-one-holding-requires : (t : ℕ) → read-one-lts.Need-holding-requires (read-one-claims t) (read-one-at t) read-one.Post
+read-one-holding-requires t c κs = search one.sequence-past
 
 read-one-enum-known-tag-3 : (t : ℕ) → read-one-lts.Need-enum-known-tag-3 (read-one-claims t) (read-one-at t) read-one.Post
 read-one-enum-known-tag-3 t c = search needs
 
 read-one-read-fragments-requires : (t : ℕ) → read-one-lts.Need-read-fragments-requires (read-one-claims t) (read-one-at t) read-one.Post
-read-one-read-fragments-requires t c κs = search (steps.parts-order, steps.parts-inside)
+read-one-read-fragments-requires t c κs = search (one.parts-order, one.parts-inside)
 
-read-one-enum-known-fault-2 : (t : ℕ) → read-one-lts.Need-enum-known-fault-2 (read-one-claims t) (read-one-at t) read-one.Post
-read-one-enum-known-fault-2 t c = search needs
-
-read-one-enum-known-next-3 : (t : ℕ) → read-one-lts.Need-enum-known-next-3 (read-one-claims t) (read-one-at t) read-one.Post
-read-one-enum-known-next-3 t c = search needs
-
-read-one-sub-t31 : (t : ℕ) → read-one-lts.Need-sub-t31 (read-one-claims t) (read-one-at t) read-one.Post
-read-one-sub-t31 t c = search steps.parts-past
+read-one-holding-requires-2 : (t : ℕ) → read-one-lts.Need-holding-requires-2 (read-one-claims t) (read-one-at t) read-one.Post
+read-one-holding-requires-2 t c κs = search one.parts-past
 
 read-one-returns : (t : ℕ) → read-one-lts.Need-returns (read-one-claims t) (read-one-at t) read-one.Post
-read-one-returns t c = search steps.one-refused
+read-one-returns t c = search one.one-refused
 
 read-one-returns-2 : (t : ℕ) → read-one-lts.Need-returns-2 (read-one-claims t) (read-one-at t) read-one.Post
-read-one-returns-2 t c = search steps.one-end
+read-one-returns-2 t c = search one.one-end
 
 read-one-returns-3 : (t : ℕ) → read-one-lts.Need-returns-3 (read-one-claims t) (read-one-at t) read-one.Post
-read-one-returns-3 t c = search steps.one-value
+read-one-returns-3 t c = search one.one-value
 
 read-one-returns-4 : (t : ℕ) → read-one-lts.Need-returns-4 (read-one-claims t) (read-one-at t) read-one.Post
-read-one-returns-4 t c = search steps.sequence-refused
+read-one-returns-4 t c = search one.sequence-one
 
 read-one-returns-5 : (t : ℕ) → read-one-lts.Need-returns-5 (read-one-claims t) (read-one-at t) read-one.Post
-read-one-returns-5 t c = search steps.sequence-read
-
-read-one-returns-6 : (t : ℕ) → read-one-lts.Need-returns-6 (read-one-claims t) (read-one-at t) read-one.Post
-read-one-returns-6 t c = search steps.parts-refused
-
-read-one-returns-7 : (t : ℕ) → read-one-lts.Need-returns-7 (read-one-claims t) (read-one-at t) read-one.Post
-read-one-returns-7 t c = search steps.parts-read
+read-one-returns-5 t c = search one.parts-one
 
 pub +read-elements+read-items+read-one-spec : {M : Type 1} → statement M
 +read-elements+read-items+read-one-spec =
@@ -276,18 +259,12 @@ pub +read-elements+read-items+read-one-spec : {M : Type 1} → statement M
     (read-one-enum-known-tag t)
     (read-one-enum-known-tag-2 t)
     (read-one-read-items-requires t)
-    (read-one-enum-known-fault t)
-    (read-one-enum-known-next-2 t)
-    (read-one-value-end-requires t)
+    (read-one-holding-requires t)
     (read-one-enum-known-tag-3 t)
     (read-one-read-fragments-requires t)
-    (read-one-enum-known-fault-2 t)
-    (read-one-enum-known-next-3 t)
-    (read-one-sub-t31 t)
+    (read-one-holding-requires-2 t)
     (read-one-returns t)
     (read-one-returns-2 t)
     (read-one-returns-3 t)
     (read-one-returns-4 t)
     (read-one-returns-5 t)
-    (read-one-returns-6 t)
-    (read-one-returns-7 t)
