@@ -52,10 +52,10 @@ past-room (outcome.Refused f) n p e = absurd (true≢false (cc))
 past-room (outcome.Next m) n p e = let q : m ≡ n = cc in rw (← q) p
 
 module _ (d : List ℕ) (delimited : Bool) (left stop at least : ℕ) (r : ElementHeader) (e : r ≡ elementAt d delimited left stop at least) where
-  element-at : (p : ElementHeader) → r ≡ p → ElementFacts d delimited left stop at least p
+  pub element-at : (p : ElementHeader) → r ≡ p → ElementFacts d delimited left stop at least p
   element-at p q = rw (sym e ∙ q) at (element-facts d delimited left stop at least)
 
-  one-is : (p : ElementHeader) → r ≡ p → oneAt explicit d delimited left stop at least
+  pub one-is : (p : ElementHeader) → r ≡ p → oneAt explicit d delimited left stop at least
       ≡ byHeader (refusal at) (λ inner. itemsAt explicit d inner left) (fragmentsAt explicit d left stop) at p
   unfolding oneAt
   one-is p q = rw (sym e ∙ q)

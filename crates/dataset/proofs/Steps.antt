@@ -38,7 +38,7 @@ pub record ItemsLoop (d : List ℕ) (delimited : Bool) (left stop from at : ℕ)
 
 -- ---- fragments: r is what stands at `at`, and R what the reader answers
 module _ (d : List ℕ) (stop at : ℕ) (r : ItemHeader) (e : r ≡ itemAt d false true stop at) where
-  fragment-at : (p : ItemHeader) → r ≡ p → ItemFacts d false true stop at p
+  pub fragment-at : (p : ItemHeader) → r ≡ p → ItemFacts d false true stop at p
   fragment-at p q = rw (sym e ∙ q) at (item-facts d false true stop at)
 
   pub fragments-less : (start end : ℕ) (inner : Bool) → r ≡ place.Item start end inner → at ≤ stop → stop - end < stop - at
@@ -100,7 +100,7 @@ module _ (d : List ℕ) (delimited : Bool) (left stop at least : ℕ) (r : OneOu
 
 -- ---- items: r is what stands at `at`, and o what the reader of an item's elements answers
 module _ (d : List ℕ) (delimited : Bool) (stop at : ℕ) (r : ItemHeader) (e : r ≡ itemAt d true delimited stop at) where
-  item-at : (p : ItemHeader) → r ≡ p → ItemFacts d true delimited stop at p
+  pub item-at : (p : ItemHeader) → r ≡ p → ItemFacts d true delimited stop at p
   item-at p q = rw (sym e ∙ q) at (item-facts d true delimited stop at)
 
   module _ (left : ℕ) (h : at ≤ stop) where

@@ -28,6 +28,7 @@ absent a size = record { answer = a; present = false; start = size; length = 0 }
 abbrev pub present : (start end : ℕ) → Found
 present start end = record { answer = answer.accepted 0; present = true; start = start; length = end - start }
 
+-- the element that was found, or none: in a data set of `size` bytes that is good
 unfoldable pub foundOf : (size : ℕ) → Option Element → Found
 foundOf size Opt.none = absent (answer.accepted 0) size
 foundOf size (some e) = present (spanOf e .start) (spanOf e .end)
@@ -37,6 +38,7 @@ unfoldable pub foundIn : (size tag : ℕ) → Reading Elements → Found
 foundIn size tag (fault f) = absent f size
 foundIn size tag (read es next) = foundOf size (find tag es)
 
+-- the lookup of a tag in a data set: one reading of the whole
 unfoldable pub found : List ℕ → (tag : ℕ) → Found
 found d tag = foundIn (length d) tag (dataSet d)
 

@@ -11,7 +11,7 @@ ghost use lib.ListN.{length};
 ghost use Rattle.dataset.specs.Reading.{explicit, elementsAt, itemsAt, fragmentsAt, oneAt, outcomeOf, oneOutcomeOf, PastDelimiter, holdingOf, answerOf, dataSet};
 
 // What a reader answers: the first fault, or the offset past what it read.
-pub enum Outcome {
+pub(crate) enum Outcome {
     Refused(Answer),
     Next(usize),
 }

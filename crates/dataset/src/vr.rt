@@ -9,7 +9,7 @@ pub const SQ: u16 = 0x5351;
 pub const UN: u16 = 0x554E;
 
 // The form of a header.
-pub enum Form {
+pub(crate) enum Form {
     // a two-byte length
     Short,
     // two reserved bytes and a four-byte length
