@@ -11,7 +11,7 @@ use lib.Dec.{ltb, eqb}
 use Rattle.dataset.specs.If.{if_then_else_}
 use Rattle.dataset.specs.Bytes.{num16, num32, tagAt, vrAt}
 use Rattle.dataset.specs.Vr.{formOf, oneOf, OB, SQ}
-use Rattle.dataset.specs.Header.{undefined, itemTag, itemDelimiter, sequenceDelimiter, outside, badLength, valueBy, longAt, byForm, vrOnAt, itemBy, endsAt, closedBy, elementAt, itemAt}
+use Rattle.dataset.specs.Header.{undefined, itemTag, itemDelimiter, sequenceDelimiter, outside, badLength, tooDeep, undefinedBy, definedBy, valueBy, longAt, byForm, vrOnAt, itemBy, endsAt, closedBy, elementAt, itemAt}
 use Rattle.dataset.specs.Order.{Tagged, Sized, ValueAt, NestAt}
 use Rattle.dataset.specs.Reading.{Headers, explicit}
 use Rattle.dataset.specs.declared.vr.Form.{Form}
@@ -102,17 +102,18 @@ unfolding formOf oneOf if_then_else_
 ob-long = refl
 
 undefined-ob : (vr len : ℕ) → badLength vr len ≡ false → eqb len undefined ≡ true → eqb vr SQ ≡ false → eqb vr OB ≡ true
-unfolding if_then_else_
+unfolding badLength if_then_else_
 undefined-ob vr len b u s = not-false (eqb vr OB) (rw (u, s) at b)
 
 not-one : (n : ℕ) → n % 2 ≢ 1 → n % 2 ≡ 0
 not-one n h = omega arith
 
 defined-even : (vr len : ℕ) → badLength vr len ≡ false → eqb len undefined ≡ false → len % 2 ≡ 0
-unfolding if_then_else_
+unfolding badLength if_then_else_
 defined-even vr len b u = let z : len % 2 ≢ 1 = eqb-false (len % 2) 1 (rw u at b) in not-one len z
 
-level : (vr left : ℕ) → (eqb vr SQ && eqb left 0) ≡ false → eqb vr SQ ≡ true → 0 < left
+level : (vr left : ℕ) → tooDeep vr left ≡ false → eqb vr SQ ≡ true → 0 < left
+unfolding tooDeep
 level vr left e q = let z = eqb-false left 0 (and-right (eqb vr SQ) (eqb left 0) e q) in omega (arith, z)
 
 module _ (d : List ℕ) (delimited : Bool) (left stop at least : ℕ) (within : stop ≤ length d) where
@@ -126,10 +127,10 @@ module _ (d : List ℕ) (delimited : Bool) (left stop at least : ℕ) (within : 
         record { tagged = t; letters = sym v ∙ e; reserved = z .1; starts = z .0; inside = h }
 
     value-facts : (len : ℕ) → Sized (formOf vr) d at start len → P (valueBy tag vr left stop start len)
-    unfolding valueBy P
+    unfolding valueBy undefinedBy definedBy P
     value-facts len s =
         choose P (badLength vr len) (λ e. omega arith) λ e1.
-        choose P (eqb vr SQ && eqb left 0) (λ e. omega arith) λ e2.
+        choose P (tooDeep vr left) (λ e. omega arith) λ e2.
         choose P (eqb len undefined)
         (λ e. choose P (eqb vr SQ)
         (λ q. (o, nest SQ len (eqb-true vr SQ q) sq-long s, h, omega arith, level vr left e2 q, within))

@@ -45,18 +45,29 @@ closedBy d delimiter delimited at = delimited && (eqb (tagAt d at) delimiter && 
 -- ---- an element
 
 -- "length odd, or FFFFFFFF on a VR other than SQ and OB, 7"
-abbrev pub badLength : (vr len : ℕ) → Bool
+unfoldable pub badLength : (vr len : ℕ) → Bool
 badLength vr len = if eqb len undefined then not (eqb vr SQ || eqb vr OB) else eqb (len % 2) 1
 
--- ".. 7; SQ at level 16, 8; value past the extent, 2." An undefined length has no end of its own: the extent's stands for it.
+-- "SQ at level 16, 8"
+unfoldable pub tooDeep : (vr left : ℕ) → Bool
+tooDeep vr left = eqb vr SQ && eqb left 0
+
+-- "FFFFFFFF (undefined) is good for SQ and OB only": it has no end of its own, and the extent's stands for it
+unfoldable pub undefinedBy : (tag vr stop start : ℕ) → ElementHeader
+undefinedBy tag vr stop start = if eqb vr SQ then element.Sequence tag start stop true else element.Fragments tag start
+
+-- a defined length: items up to `end`, or a value that is not looked into
+unfoldable pub definedBy : (tag vr start end : ℕ) → ElementHeader
+definedBy tag vr start end = if eqb vr SQ then element.Sequence tag start end false else element.Value tag vr start end
+
+-- "length odd, or FFFFFFFF on .., 7; SQ at level 16, 8; value past the extent, 2"
 unfoldable pub valueBy : (tag vr left stop start len : ℕ) → ElementHeader
 valueBy tag vr left stop start len =
     if badLength vr len then element.Refused 7 else
-    if eqb vr SQ && eqb left 0 then element.Refused 8 else
-    if eqb len undefined then (if eqb vr SQ then element.Sequence tag start stop true else element.Fragments tag start) else
+    if tooDeep vr left then element.Refused 8 else
+    if eqb len undefined then undefinedBy tag vr stop start else
     if ltb (stop - start) len then element.Refused 2 else
-    if eqb vr SQ then element.Sequence tag start (start + len) false else
-    element.Value tag vr start (start + len)
+    definedBy tag vr start (start + len)
 
 -- "long form with fewer than 12 bytes left, 2; reserved not zero, 6; .."
 unfoldable pub longAt : List ℕ → (tag vr left stop at : ℕ) → ElementHeader

@@ -5,7 +5,7 @@ use crate::vr::Form;
 ghost use mathlib.Core.Path.{_≡_};
 ghost use Prim.Native.Nat.{_+_, _≤_};
 ghost use lib.ListN.{length};
-ghost use Rattle.dataset.specs.Header.{valueBy, longAt, vrOnAt, endsAt, closedBy, elementAt, itemBy, itemAt};
+ghost use Rattle.dataset.specs.Header.{badLength, tooDeep, undefinedBy, definedBy, valueBy, longAt, vrOnAt, endsAt, closedBy, elementAt, itemBy, itemAt};
 
 // What stands in an element's place.
 pub enum ElementHeader {
@@ -56,54 +56,82 @@ const ITEM_DELIMITER: u32 = 0xFFFEE00D;
 
 const SEQUENCE_DELIMITER: u32 = 0xFFFEE0DD;
 
-// The checks of a length and a value that starts at `start`: 7, 8 and the last 2.
-fn value_by(tag: u32, vr: u16, left: u32, stop: usize, start: usize, len: usize) -> ElementHeader
-    requires { ⌜ start ≤ stop ⌝ }
-    ensures { λ r. ⌜ r ≡ valueBy tag vr left stop start len ⌝ }
+// A value, or a sequence of defined length.
+fn defined_by(tag: u32, vr: u16, start: usize, end: usize) -> ElementHeader
+    ensures { λ r. ⌜ r ≡ definedBy tag vr start end ⌝ }
 {
-    if len == UNDEFINED {
-        if vr == vr::SQ {
-            if left == 0 {
-                return ElementHeader::Refused(8);
-            }
-            return ElementHeader::Sequence {
-                tag,
-                start,
-                end: stop,
-                delimited: true,
-            };
-        }
-        if vr == vr::OB {
-            return ElementHeader::Fragments { tag, start };
-        }
-        return ElementHeader::Refused(7);
-    }
-    if len % 2 == 1 {
-        return ElementHeader::Refused(7);
-    }
     if vr == vr::SQ {
-        if left == 0 {
-            return ElementHeader::Refused(8);
-        }
-        if stop - start < len {
-            return ElementHeader::Refused(2);
-        }
         return ElementHeader::Sequence {
             tag,
             start,
-            end: start + len,
+            end,
             delimited: false,
         };
-    }
-    if stop - start < len {
-        return ElementHeader::Refused(2);
     }
     ElementHeader::Value {
         tag,
         vr,
         start,
-        end: start + len,
+        end,
     }
+}
+
+// A sequence of undefined length, or fragments.
+fn undefined_by(tag: u32, vr: u16, stop: usize, start: usize) -> ElementHeader
+    ensures { λ r. ⌜ r ≡ undefinedBy tag vr stop start ⌝ }
+{
+    if vr == vr::SQ {
+        return ElementHeader::Sequence {
+            tag,
+            start,
+            end: stop,
+            delimited: true,
+        };
+    }
+    ElementHeader::Fragments { tag, start }
+}
+
+// Whether the length is odd, or undefined on a VR other than SQ and OB.
+fn bad_length(vr: u16, len: usize) -> bool
+    ensures { λ r. ⌜ r ≡ badLength vr len ⌝ }
+{
+    if len == UNDEFINED {
+        if vr == vr::SQ {
+            return false;
+        }
+        return vr != vr::OB;
+    }
+    len % 2 == 1
+}
+
+// Whether it is a sequence with no level left.
+fn too_deep(vr: u16, left: u32) -> bool
+    ensures { λ r. ⌜ r ≡ tooDeep vr left ⌝ }
+{
+    if vr == vr::SQ {
+        return left == 0;
+    }
+    false
+}
+
+// The checks of a length and a value that starts at `start`: 7, 8 and the last 2.
+fn value_by(tag: u32, vr: u16, left: u32, stop: usize, start: usize, len: usize) -> ElementHeader
+    requires { ⌜ start ≤ stop ⌝ }
+    ensures { λ r. ⌜ r ≡ valueBy tag vr left stop start len ⌝ }
+{
+    if bad_length(vr, len) {
+        return ElementHeader::Refused(7);
+    }
+    if too_deep(vr, left) {
+        return ElementHeader::Refused(8);
+    }
+    if len == UNDEFINED {
+        return undefined_by(tag, vr, stop, start);
+    }
+    if stop - start < len {
+        return ElementHeader::Refused(2);
+    }
+    defined_by(tag, vr, start, start + len)
 }
 
 // Whether an extent of defined length ends at `at`.

@@ -5,73 +5,56 @@ use borrow.Author.Needs.{needs}
 use Rattle.dataset.proofs.header.value_by.Statement.{statement}
 use Rattle.dataset.proofs.header.value_by.Tie as tie
 
+bad-length-requires : tie.Need-bad-length-requires
+bad-length-requires c κs = search needs
+
 returns : tie.Need-returns
 unfolding valueBy
-returns c = search checks.checks depth 16
+returns c = search (checks.checks, checks.results)
+
+too-deep-requires : tie.Need-too-deep-requires
+too-deep-requires c κs = search needs
 
 returns-2 : tie.Need-returns-2
 unfolding valueBy
-returns-2 c = search checks.checks depth 16
+returns-2 c = search (checks.checks, checks.results)
+
+undefined-by-requires : tie.Need-undefined-by-requires
+undefined-by-requires c κs = search needs
 
 returns-3 : tie.Need-returns-3
 unfolding valueBy
-returns-3 c = search checks.checks depth 16
+returns-3 c = search (checks.checks, checks.results)
+
+sub-if4 : tie.Need-sub-if4
+sub-if4 c = search needs
 
 returns-4 : tie.Need-returns-4
 unfolding valueBy
-returns-4 c = search checks.checks depth 16
+returns-4 c = search (checks.checks, checks.results)
+
+add-defined-by : tie.Need-add-defined-by
+add-defined-by c = search needs
+
+defined-by-requires : tie.Need-defined-by-requires
+defined-by-requires c κs = search needs
 
 returns-5 : tie.Need-returns-5
 unfolding valueBy
-returns-5 c = search checks.checks depth 16
-
-returns-6 : tie.Need-returns-6
-unfolding valueBy
-returns-6 c = search checks.checks depth 16
-
-sub-if8 : tie.Need-sub-if8
-sub-if8 c = search needs
-
-returns-7 : tie.Need-returns-7
-unfolding valueBy
-returns-7 c = search checks.checks depth 16
-
-add-t12 : tie.Need-add-t12
-add-t12 c = search needs
-
-returns-8 : tie.Need-returns-8
-unfolding valueBy
-returns-8 c = search checks.checks depth 16
-
-sub-if9 : tie.Need-sub-if9
-sub-if9 c = search needs
-
-returns-9 : tie.Need-returns-9
-unfolding valueBy
-returns-9 c = search checks.checks depth 16
-
-add-t10 : tie.Need-add-t10
-add-t10 c = search needs
-
-returns-10 : tie.Need-returns-10
-unfolding valueBy
-returns-10 c = search checks.checks depth 16
+returns-5 c = search (checks.checks, checks.results)
 
 pub value-by-spec : {M : Type 1} → statement M
 value-by-spec =
     tie.close
     (tie.spec
+    bad-length-requires
     returns
+    too-deep-requires
     returns-2
+    undefined-by-requires
     returns-3
+    sub-if4
     returns-4
-    returns-5
-    returns-6
-    sub-if8
-    returns-7
-    add-t12
-    returns-8
-    sub-if9
-    returns-9
-    add-t10
-    returns-10)
+    add-defined-by
+    defined-by-requires
+    returns-5)
