@@ -66,7 +66,7 @@ module _ (d : List ℕ) (stop at : ℕ) (r : ItemHeader) (e : r ≡ itemAt d fal
 
 -- ---- elements: r is what the reader of one element answers
 module _ (d : List ℕ) (delimited : Bool) (left stop at least : ℕ) (r : OneOutcome) (e : r ≡ oneOutcomeOf (oneAt explicit d delimited left stop at least)) (h : at ≤ stop) where
-  elements-at : (o : Reading One) → oneAt explicit d delimited left stop at least ≡ o
+  pub elements-at : (o : Reading One) → oneAt explicit d delimited left stop at least ≡ o
       → elementsAt explicit d delimited left stop at least ≡ (o >>= byOne (elementsAt explicit d delimited left stop))
   elements-at o q = rw (elements-are explicit explicit-bounded d delimited left stop at least h, q)
 

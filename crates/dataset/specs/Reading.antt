@@ -138,7 +138,7 @@ module _ (h : Headers) where
 abbrev pub sizeLimit : ℕ
 sizeLimit = 1048576
 
--- "The top is level 0"; "a sequence at level 16 is refused with 8"
+-- level, a term of 01: "The top is level 0"; "a sequence at level 16 is refused with 8", so that at the top 16 levels are left
 abbrev pub levels : ℕ
 levels = 16
 
@@ -151,7 +151,7 @@ abbrev pub answerOf : {A : Type 0} → Reading A → Answer
 answerOf (fault f) = f
 answerOf (read a next) = answer.accepted 0
 
--- "A data set is well-formed when none of the conditions 1 to 8 holds for it."
+-- well-formed, a term of 01 ("The stream"): "A data set is well-formed when none of the conditions 1 to 8 holds for it."
 abbrev pub WellFormed : List ℕ → Type 0
 WellFormed d = answerOf (dataSet d) ≡ answer.accepted 0
 
