@@ -5,7 +5,7 @@ use mathlib.Core.Path.{_≡_, sym, _∙_}
 use mathlib.Core.Bool.{Bool, true, false, not, _&&_, _||_}
 use lib.Dec.{ltb, eqb}
 use borrow.Author.Tests.{lt-ltb, le-ltb, eq-eqb, ne-eqb}
-use Rattle.dataset.specs.If.{if_then_else_}
+use Rattle.answer.specs.If.{if_then_else_}
 use Rattle.dataset.specs.Header.{longAt, byForm, vrOnAt, valueBy, itemBy}
 use Rattle.dataset.specs.Bytes.{num16, num32, tagAt, vrAt}
 use Rattle.dataset.specs.Vr.{formOf}

@@ -8,7 +8,7 @@ use lib.ListN.{length}
 use lib.Dec.{ltb}
 use borrow.Author.Tests.{ltb-false, ltb-true}
 use Rattle.answer.specs.declared.Answer.{Answer}
-use Rattle.dataset.specs.If.{if_then_else_}
+use Rattle.answer.specs.If.{if_then_else_}
 use Rattle.dataset.specs.Vr.{OB, SQ}
 use Rattle.dataset.specs.Header.{elementAt, itemAt}
 use Rattle.dataset.specs.Tree.{Span, span, Element, Elements, Items, tagOf}

@@ -7,7 +7,7 @@ use mathlib.Core.List.{List}
 use native.Mathlib.Omega.{arith}
 use lib.ListN.{length}
 use Rattle.answer.specs.declared.Answer.{Answer}
-use Rattle.dataset.specs.If.{if_then_else_}
+use Rattle.answer.specs.If.{if_then_else_}
 use Rattle.dataset.specs.Vr.{OB, SQ}
 use Rattle.dataset.specs.Header.{elementAt}
 use Rattle.dataset.specs.Tree.{Element}

@@ -1,4 +1,3 @@
-pub mod If
 pub mod Bytes
 pub mod Vr
 pub mod Header

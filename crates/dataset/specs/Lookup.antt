@@ -9,7 +9,7 @@ use lib.Dec.{eqb}
 use lib.ListN.{length}
 use Rattle.answer.specs.declared.Answer.{Answer}
 use Rattle.answer.specs.Answer as answer
-use Rattle.dataset.specs.If.{if_then_else_}
+use Rattle.answer.specs.If.{if_then_else_}
 use Rattle.dataset.specs.Bytes.{between}
 use Rattle.dataset.specs.Tree.{Element, Elements, none, and, tagOf, spanOf}
 use Rattle.dataset.specs.Reading.{Reading, fault, read, dataSet}

@@ -1,0 +1,72 @@
+//! "The stream program": its input bytes to the bytes it prints.
+
+use crate::list_mode;
+use crate::{Refusal, StreamAnswer};
+
+/// "Standard input, at most 65,536 bytes".
+pub const MOST_INPUT: usize = 65_536;
+
+/// "It runs list mode with 65,536 bytes of output room."
+pub const OUTPUT_ROOM: usize = 65_536;
+
+/// The program's answer and what it prints.
+#[derive(Clone, Debug, PartialEq, Eq)]
+pub struct Printed {
+    pub number: u32,
+    pub position: usize,
+    pub length: usize,
+    pub stream: Option<Vec<u8>>,
+    pub text: Vec<u8>,
+}
+
+/// What the stream program prints for `input`.
+pub fn run(input: &[u8]) -> Printed {
+    let answer = match parts(input) {
+        Some((list, data)) => list_mode::stream(data, list, OUTPUT_ROOM),
+        // "Otherwise 24, before all else."
+        None => StreamAnswer::from_result(Err(Refusal::plain(24))),
+    };
+    // "It prints answer, position and length in decimal with single spaces"
+    let mut text = format!("{} {} {}\n", answer.number, answer.position, answer.length).into_bytes();
+    // "then for answer 0 the stream in lower-case hex, 32 bytes a line"
+    if let Some(stream) = &answer.stream {
+        for line in stream.chunks(32) {
+            for byte in line {
+                text.extend_from_slice(format!("{byte:02x}").as_bytes());
+            }
+            text.push(b'\n');
+        }
+    }
+    Printed {
+        number: answer.number,
+        position: answer.position,
+        length: answer.length,
+        stream: answer.stream,
+        text,
+    }
+}
+
+/// "version byte 1; four-byte big-endian length; list; four-byte big-endian
+/// length; data set; nothing after": the list and the data set.
+fn parts(input: &[u8]) -> Option<(&[u8], &[u8])> {
+    if input.len() > MOST_INPUT {
+        return None;
+    }
+    let (&version, rest) = input.split_first()?;
+    if version != 1 {
+        return None;
+    }
+    let (list, rest) = counted(rest)?;
+    let (data, rest) = counted(rest)?;
+    rest.is_empty().then_some((list, data))
+}
+
+/// A four-byte big-endian length, that many bytes, and the rest.
+fn counted(bytes: &[u8]) -> Option<(&[u8], &[u8])> {
+    if bytes.len() < 4 {
+        return None;
+    }
+    let (length, rest) = bytes.split_at(4);
+    let length = u32::from_be_bytes([length[0], length[1], length[2], length[3]]) as usize;
+    (length <= rest.len()).then(|| rest.split_at(length))
+}

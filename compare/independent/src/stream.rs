@@ -1,0 +1,88 @@
+//! "The stream": the signed stream of an element.
+
+use crate::reading::{Content, Element};
+use crate::tag_list::is_barred;
+use crate::{Refusal, StreamAnswer};
+
+/// An item's "four tag bytes".
+const ITEM_TAG: [u8; 4] = [0xFE, 0xFF, 0x00, 0xE0];
+
+/// "then FE FF DD E0, present in the input or not".
+const SEQUENCE_DELIMITATION_TAG: [u8; 4] = [0xFE, 0xFF, 0xDD, 0xE0];
+
+/// The signed stream of one element, or 17.
+pub fn signed_stream(element: &Element) -> StreamAnswer {
+    let mut writer = Writer::default();
+    writer.write(element);
+    StreamAnswer::from_result(writer.finish())
+}
+
+/// "sequence with a UN element at any depth, even inside a barred element";
+/// a UN counts even where it is itself barred (i).
+pub fn holds_unknown(element: &Element) -> bool {
+    match &element.content {
+        Content::Items(items) => items
+            .iter()
+            .flat_map(|item| &item.elements)
+            .any(|inner| inner.is_unknown() || holds_unknown(inner)),
+        Content::Bytes | Content::Fragments(_) => false,
+    }
+}
+
+/// The stream as far as it is written.
+#[derive(Default)]
+pub(crate) struct Writer {
+    stream: Vec<u8>,
+    /// A UN was met inside a sequence being written.
+    unknown_met: bool,
+}
+
+impl Writer {
+    pub(crate) fn length(&self) -> usize {
+        self.stream.len()
+    }
+
+    /// Writes one element by the rules of the stream.
+    pub(crate) fn write(&mut self, element: &Element) {
+        match &element.content {
+            // "An element other than SQ and undefined OB: all its bytes, the
+            // length included."
+            Content::Bytes => self.stream.extend_from_slice(element.bytes),
+            // "SQ: tag, VR, reserved; then for each item its four tag bytes
+            // and its elements by these rules; then FE FF DD E0"
+            Content::Items(items) => {
+                self.stream.extend_from_slice(&element.bytes[..8]);
+                for item in items {
+                    self.stream.extend_from_slice(&ITEM_TAG);
+                    for inner in &item.elements {
+                        // "Barred elements inside a sequence are left out at
+                        // every depth."
+                        if is_barred(inner.tag) {
+                            continue;
+                        }
+                        self.unknown_met |= inner.is_unknown();
+                        self.write(inner);
+                    }
+                }
+                self.stream.extend_from_slice(&SEQUENCE_DELIMITATION_TAG);
+            }
+            // "Undefined OB: likewise, with fragments' raw bytes."
+            Content::Fragments(fragments) => {
+                self.stream.extend_from_slice(&element.bytes[..8]);
+                for fragment in fragments {
+                    self.stream.extend_from_slice(&ITEM_TAG);
+                    self.stream.extend_from_slice(fragment);
+                }
+                self.stream.extend_from_slice(&SEQUENCE_DELIMITATION_TAG);
+            }
+        }
+    }
+
+    /// "17 | UN met inside a sequence being written (position 0)".
+    pub(crate) fn finish(self) -> Result<Vec<u8>, Refusal> {
+        if self.unknown_met {
+            return Err(Refusal::plain(17));
+        }
+        Ok(self.stream)
+    }
+}

@@ -1,0 +1,66 @@
+//! "The tag list": 10, 11, 12.
+
+use crate::reading::Tag;
+use crate::Refusal;
+
+/// "1 to 1,024 tags".
+pub const MOST_TAGS: usize = 1_024;
+
+/// The list's tags, or 10, 11 or 12. The length is 0: nothing is written.
+#[derive(Clone, Debug, PartialEq, Eq)]
+pub struct TagList {
+    pub number: u32,
+    pub position: usize,
+    pub length: usize,
+    pub tags: Option<Vec<Tag>>,
+}
+
+/// Reads a tag list: 10, 11 over the whole list, 12 over the whole list.
+pub fn read_list(list: &[u8]) -> TagList {
+    match tags_of(list) {
+        Ok(tags) => TagList { number: 0, position: 0, length: 0, tags: Some(tags) },
+        Err(refusal) => TagList {
+            number: refusal.number,
+            position: refusal.position,
+            length: 0,
+            tags: None,
+        },
+    }
+}
+
+pub(crate) fn tags_of(list: &[u8]) -> Result<Vec<Tag>, Refusal> {
+    // "10 | list empty, over 1,024 tags, or not a multiple of 4 bytes"
+    if list.is_empty() || list.len() > 4 * MOST_TAGS || list.len() % 4 != 0 {
+        return Err(Refusal::plain(10));
+    }
+    // "Four bytes a tag, coded as above"
+    let tags: Vec<Tag> = list
+        .chunks_exact(4)
+        .map(|bytes| Tag::from_bytes([bytes[0], bytes[1], bytes[2], bytes[3]]))
+        .collect();
+    // "11 | a tag not above the one before it"; the later tag's index (g)
+    for index in 1..tags.len() {
+        if tags[index] <= tags[index - 1] {
+            return Err(Refusal::at(11, index));
+        }
+    }
+    // "12 | barred tag"
+    for (index, &tag) in tags.iter().enumerate() {
+        if is_barred(tag) {
+            return Err(Refusal::at(12, index));
+        }
+    }
+    Ok(tags)
+}
+
+/// "Barred (001): element number 0000; (0008,0001); groups below 0008; group
+/// FFFA; (4FFE,0001); (FFFC,FFFC); (FFFE,E00D)."
+pub fn is_barred(tag: Tag) -> bool {
+    tag.element() == 0x0000
+        || tag == Tag::new(0x0008, 0x0001)
+        || tag.group() < 0x0008
+        || tag.group() == 0xFFFA
+        || tag == Tag::new(0x4FFE, 0x0001)
+        || tag == Tag::new(0xFFFC, 0xFFFC)
+        || tag == Tag::new(0xFFFE, 0xE00D)
+}
