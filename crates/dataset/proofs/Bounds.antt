@@ -1,0 +1,279 @@
+-- What one header guarantees: it lies in its extent, what it says stands in the data set, and a refusal is numbered 2 to 8. Assumes nothing.
+use Prim.Native.Nat.{ℕ, _+_, _-_, _%_, _≤_, _<_}
+use mathlib.Core.Path.{_≡_, refl, sym, ap, _∙_}
+use mathlib.Core.Logic.{_≢_}
+use mathlib.Core.Bool.{Bool, true, false, not, _&&_, _||_, true≢false, false≢true}
+use mathlib.Core.List.{List}
+use native.Mathlib.Omega.{arith}
+use borrow.Author.Tests.{ltb-false, eqb-true, eqb-false}
+use lib.ListN.{length}
+use lib.Dec.{ltb, eqb}
+use Rattle.dataset.specs.If.{if_then_else_}
+use Rattle.dataset.specs.Bytes.{num16, num32, tagAt, vrAt}
+use Rattle.dataset.specs.Vr.{formOf, oneOf, OB, SQ}
+use Rattle.dataset.specs.Header.{undefined, itemTag, itemDelimiter, sequenceDelimiter, outside, badLength, valueBy, longAt, byForm, vrOnAt, itemBy, endsAt, closedBy, elementAt, itemAt}
+use Rattle.dataset.specs.Order.{Tagged, Sized, ValueAt, NestAt}
+use Rattle.dataset.specs.Reading.{Headers, explicit}
+use Rattle.dataset.specs.declared.vr.Form.{Form}
+use Rattle.dataset.specs.declared.vr.Form.the-variants.{Short, Long, Unknown}
+use Rattle.dataset.specs.declared.header.ElementHeader.{ElementHeader}
+use Rattle.dataset.specs.declared.header.ElementHeader.the-variants as element
+use Rattle.dataset.specs.declared.header.ItemHeader.{ItemHeader}
+use Rattle.dataset.specs.declared.header.ItemHeader.the-variants as item
+
+-- a property of both arms, each where its test holds, is one of the choice
+pub choose : {A : Type 0} (P : A → Type 0) (b : Bool) {x y : A} → (b ≡ true → P x) → (b ≡ false → P y) → P (if b then x else y)
+unfolding if_then_else_
+choose P true f g = f refl
+choose P false f g = g refl
+
+-- ---- tests on Bools
+pub and-right : (a b : Bool) → (a && b) ≡ false → a ≡ true → b ≡ false
+and-right true b e t = e
+and-right false b e t = absurd (false≢true t)
+
+both : (a b : Bool) → (a && b) ≡ true → (a ≡ true) × (b ≡ true)
+both true b e = (refl, e)
+both false b e = absurd (false≢true e)
+
+neither : (a b : Bool) → (a || b) ≡ false → (a ≡ false) × (b ≡ false)
+neither true b e = absurd (true≢false e)
+neither false b e = (refl, e)
+
+not-false : (b : Bool) → not b ≡ false → b ≡ true
+not-false true e = refl
+not-false false e = absurd (true≢false e)
+
+not-true : (b : Bool) → not b ≡ true → b ≡ false
+not-true true e = absurd (false≢true e)
+not-true false e = refl
+
+-- ---- what a header guarantees
+
+-- a refusal that a header gives
+abbrev pub Number : ℕ → Type 0
+Number n = (2 ≤ n) × (n ≤ 8)
+
+-- the end of an extent: "filled exactly", or closed by a delimiter
+pub record EndAt (delimited : Bool) (stop at next : ℕ) : Type 0 where
+  pub order : at ≤ next
+  pub inside : next ≤ stop
+  pub filled : delimited ≡ false → (next ≡ at) × (next ≡ stop)
+  pub closed : delimited ≡ true → next ≡ at + 8
+
+-- an item or a fragment
+pub record ItemSpan (d : List ℕ) (stop at start end : ℕ) (delimited : Bool) : Type 0 where
+  pub tag : tagAt d at ≡ itemTag
+  pub starts : start ≡ at + 8
+  pub order : start ≤ end
+  pub inside : end ≤ stop
+  pub even : delimited ≡ false → (end - start) % 2 ≡ 0
+
+abbrev pub ElementFacts : List ℕ → (delimited : Bool) (left stop at least : ℕ) → ElementHeader → Type 0
+ElementFacts d delimited left stop at least (element.Refused number) = Number number
+ElementFacts d delimited left stop at least (element.End next) = EndAt delimited stop at next
+ElementFacts d delimited left stop at least (element.Value tag vr start end) = (least ≤ tag) × ValueAt d stop at tag vr start end
+ElementFacts d delimited left stop at least (element.Sequence tag start end inner) =
+    (least ≤ tag) × NestAt d stop at tag SQ start × (start ≤ end) × (end ≤ stop) × (0 < left) × (stop ≤ length d)
+ElementFacts d delimited left stop at least (element.Fragments tag start) = (least ≤ tag) × NestAt d stop at tag OB start × (stop ≤ length d)
+
+abbrev pub ItemFacts : List ℕ → (inSequence delimited : Bool) (stop at : ℕ) → ItemHeader → Type 0
+ItemFacts d inSequence delimited stop at (item.Refused number) = Number number
+ItemFacts d inSequence delimited stop at (item.End next) = EndAt delimited stop at next
+ItemFacts d inSequence delimited stop at (item.Item start end inner) = ItemSpan d stop at start end inner × (inSequence ≡ false → inner ≡ false)
+
+-- ---- the checks of a length and a value
+sized-long : (f : Form) (d : List ℕ) (at start n : ℕ) → f ≡ Long → Sized f d at start n → (start ≡ at + 12) × (num16 d (at + 6) ≡ 0)
+sized-long Short d at start n e s = absurd (true≢false (cc))
+sized-long Long d at start n e s = (s .0, s .1)
+sized-long Unknown d at start n e s = absurd s
+
+pub sized-start : (f : Form) (d : List ℕ) (at start n : ℕ) → Sized f d at start n → at + 8 ≤ start
+sized-start Short d at start n s = let z = s .0 in omega arith
+sized-start Long d at start n s = let z = s .0 in omega arith
+sized-start Unknown d at start n s = absurd s
+
+sq-long : formOf SQ ≡ Long
+unfolding formOf oneOf if_then_else_
+sq-long = refl
+
+ob-long : formOf OB ≡ Long
+unfolding formOf oneOf if_then_else_
+ob-long = refl
+
+undefined-ob : (vr len : ℕ) → badLength vr len ≡ false → eqb len undefined ≡ true → eqb vr SQ ≡ false → eqb vr OB ≡ true
+unfolding if_then_else_
+undefined-ob vr len b u s = not-false (eqb vr OB) (rw (u, s) at b)
+
+not-one : (n : ℕ) → n % 2 ≢ 1 → n % 2 ≡ 0
+not-one n h = omega arith
+
+defined-even : (vr len : ℕ) → badLength vr len ≡ false → eqb len undefined ≡ false → len % 2 ≡ 0
+unfolding if_then_else_
+defined-even vr len b u = let z : len % 2 ≢ 1 = eqb-false (len % 2) 1 (rw u at b) in not-one len z
+
+level : (vr left : ℕ) → (eqb vr SQ && eqb left 0) ≡ false → eqb vr SQ ≡ true → 0 < left
+level vr left e q = let z = eqb-false left 0 (and-right (eqb vr SQ) (eqb left 0) e q) in omega (arith, z)
+
+module _ (d : List ℕ) (delimited : Bool) (left stop at least : ℕ) (within : stop ≤ length d) where
+  P : ElementHeader → Type 0
+  P = ElementFacts d delimited left stop at least
+
+  module _ (tag vr start : ℕ) (t : Tagged d at tag) (o : least ≤ tag) (v : vr ≡ vrAt d at) (h : start ≤ stop) where
+    nest : (k n : ℕ) → vr ≡ k → formOf k ≡ Long → Sized (formOf vr) d at start n → NestAt d stop at tag k start
+    nest k n e l s =
+        let z = sized-long (formOf vr) d at start n (ap formOf e ∙ l) s in
+        record { tagged = t; letters = sym v ∙ e; reserved = z .1; starts = z .0; inside = h }
+
+    value-facts : (len : ℕ) → Sized (formOf vr) d at start len → P (valueBy tag vr left stop start len)
+    unfolding valueBy P
+    value-facts len s =
+        choose P (badLength vr len) (λ e. omega arith) λ e1.
+        choose P (eqb vr SQ && eqb left 0) (λ e. omega arith) λ e2.
+        choose P (eqb len undefined)
+        (λ e. choose P (eqb vr SQ)
+        (λ q. (o, nest SQ len (eqb-true vr SQ q) sq-long s, h, omega arith, level vr left e2 q, within))
+        λ q. (o, nest OB len (eqb-true vr OB (undefined-ob vr len e1 e q)) ob-long s, within)) λ e3.
+        choose P (ltb (stop - start) len) (λ e. omega arith) λ e4.
+        let fit = ltb-false (stop - start) len e4 in
+        choose P (eqb vr SQ)
+        (λ q. (o, nest SQ len (eqb-true vr SQ q) sq-long s, omega arith, omega arith, level vr left e2 q, within))
+        λ q. (
+          o,
+          let n : start + len - start ≡ len = omega arith in record {
+            tagged = t;
+            letters = v;
+            form = rw n s;
+            plain = eqb-false vr SQ q;
+            header = sized-start (formOf vr) d at start len s;
+            order = omega arith;
+            inside = omega arith;
+            even = rw n (defined-even vr len e1 e3);
+          },
+        )
+
+  long-facts : (tag vr : ℕ) → Tagged d at tag → least ≤ tag → vr ≡ vrAt d at → formOf vr ≡ Long → P (longAt d tag vr left stop at)
+  unfolding longAt P
+  long-facts tag vr t o v f =
+      choose P (ltb (stop - at) 12) (λ e. omega arith) λ e1.
+      let m = ltb-false (stop - at) 12 e1 in
+      choose P (not (eqb (num16 d (at + 6)) 0)) (λ e. omega arith) λ e2.
+      let z = eqb-true (num16 d (at + 6)) 0 (not-false (eqb (num16 d (at + 6)) 0) e2) in
+      value-facts tag vr (at + 12) t o v (omega arith) (num32 d (at + 8)) (rw f (refl, z, refl))
+
+  form-facts : (f : Form) (tag vr : ℕ) → formOf vr ≡ f → Tagged d at tag → least ≤ tag → vr ≡ vrAt d at → 8 ≤ stop - at → P (byForm f d tag vr left stop at)
+  unfolding byForm P
+  form-facts Short tag vr f t o v h = value-facts tag vr (at + 8) t o v (omega arith) (num16 d (at + 6)) (rw f (refl, refl))
+  form-facts Long tag vr f t o v h = long-facts tag vr t o v f
+  form-facts Unknown tag vr f t o v h = omega arith
+
+ends-facts : (delimited : Bool) (stop at : ℕ) → endsAt delimited stop at ≡ true → EndAt delimited stop at at
+unfolding endsAt
+ends-facts delimited stop at e =
+    let z = both (not delimited) (eqb at stop) e in
+    let q = eqb-true at stop (z .1) in
+    record {
+      order = omega arith;
+      inside = omega arith;
+      filled = λ x. (refl, q);
+      closed = λ x. absurd (true≢false (sym x ∙ not-true delimited (z .0)));
+    }
+
+closed-facts : (d : List ℕ) (delimiter : ℕ) (delimited : Bool) (stop at : ℕ) → 8 ≤ stop - at → closedBy d delimiter delimited at ≡ true → EndAt delimited stop at (at + 8)
+unfolding closedBy
+closed-facts d delimiter delimited stop at h e =
+    let z = both delimited (eqb (tagAt d at) delimiter && eqb (num32 d (at + 4)) 0) e in
+    record {
+      order = omega arith;
+      inside = omega arith;
+      filled = λ x. absurd (false≢true (sym x ∙ z .0));
+      closed = λ x. refl;
+    }
+
+inside-of : (d : List ℕ) (stop at : ℕ) → outside d stop at ≡ false → (stop ≤ length d) × (at ≤ stop)
+inside-of d stop at e =
+    let z = neither (ltb (length d) stop) (ltb stop at) e in
+    (ltb-false (length d) stop (z .0), ltb-false stop at (z .1))
+
+pub element-facts : (d : List ℕ) (delimited : Bool) (left stop at least : ℕ)
+    → ElementFacts d delimited left stop at least (elementAt d delimited left stop at least)
+unfolding elementAt vrOnAt P
+element-facts d delimited left stop at least =
+    let P = ElementFacts d delimited left stop at least in
+    choose P (outside d stop at) (λ e. omega arith) λ e0.
+    let k = inside-of d stop at e0 in
+    choose P (endsAt delimited stop at) (λ e. ends-facts delimited stop at e) λ e1.
+    choose P (ltb (stop - at) 8) (λ e. omega arith) λ e2.
+    let m = ltb-false (stop - at) 8 e2 in
+    choose P (closedBy d itemDelimiter delimited at) (λ e. closed-facts d itemDelimiter delimited stop at m e) λ e3.
+    choose P (eqb (num16 d at) 0xFFFE) (λ e. omega arith) λ e4.
+    choose P (ltb (tagAt d at) least) (λ e. omega arith) λ e5.
+    form-facts d delimited left stop at least (k .0) (formOf (vrAt d at)) (tagAt d at) (vrAt d at) refl
+    record { stands = refl; group = eqb-false (num16 d at) 0xFFFE e4 } (ltb-false (tagAt d at) least e5) refl m
+
+-- ---- an item or a fragment
+item-by-facts : (d : List ℕ) (inSequence delimited : Bool) (stop at len : ℕ) → tagAt d at ≡ itemTag → at + 8 ≤ stop
+    → ItemFacts d inSequence delimited stop at (itemBy inSequence stop (at + 8) len)
+unfolding itemBy
+item-by-facts d inSequence delimited stop at len t h =
+    let P = ItemFacts d inSequence delimited stop at in
+    choose P (eqb len undefined && inSequence)
+    (λ e. (
+      record { tag = t; starts = refl; order = h; inside = omega arith; even = λ x. absurd (true≢false x) },
+      λ x. absurd (true≢false (sym (both (eqb len undefined) inSequence e .1) ∙ x)),
+    )) λ e1.
+    choose P (eqb (len % 2) 1) (λ e. omega arith) λ e2.
+    choose P (ltb (stop - (at + 8)) len) (λ e. omega arith) λ e3.
+    let fit = ltb-false (stop - (at + 8)) len e3 in
+    let n : at + 8 + len - (at + 8) ≡ len = omega arith in (
+      record { tag = t; starts = refl; order = omega arith; inside = omega arith; even = λ x. rw n (not-one len (eqb-false (len % 2) 1 e2)) },
+      λ x. refl,
+    )
+
+pub item-facts : (d : List ℕ) (inSequence delimited : Bool) (stop at : ℕ) → ItemFacts d inSequence delimited stop at (itemAt d inSequence delimited stop at)
+unfolding itemAt
+item-facts d inSequence delimited stop at =
+    let P = ItemFacts d inSequence delimited stop at in
+    choose P (outside d stop at) (λ e. omega arith) λ e0.
+    let k = inside-of d stop at e0 in
+    choose P (endsAt delimited stop at) (λ e. ends-facts delimited stop at e) λ e1.
+    choose P (ltb (stop - at) 8) (λ e. omega arith) λ e2.
+    let m = ltb-false (stop - at) 8 e2 in
+    choose P (closedBy d sequenceDelimiter delimited at) (λ e. closed-facts d sequenceDelimiter delimited stop at m e) λ e3.
+    choose P (not (eqb (tagAt d at) itemTag)) (λ e. omega arith) λ e4.
+    item-by-facts d inSequence delimited stop at _ (eqb-true (tagAt d at) itemTag (not-false (eqb (tagAt d at) itemTag) e4)) (omega arith)
+
+-- ---- what the recursion needs of the headers it is defined over
+abbrev pub ElementIn : (stop at : ℕ) → ElementHeader → Type 0
+ElementIn stop at (element.Refused number) = Number number
+ElementIn stop at (element.End next) = (at ≤ next) × (next ≤ stop)
+ElementIn stop at (element.Value tag vr start end) = (at < end) × (end ≤ stop)
+ElementIn stop at (element.Sequence tag start end inner) = (at < start) × (start ≤ end) × (end ≤ stop)
+ElementIn stop at (element.Fragments tag start) = (at < start) × (start ≤ stop)
+
+abbrev pub ItemIn : (stop at : ℕ) → ItemHeader → Type 0
+ItemIn stop at (item.Refused number) = Number number
+ItemIn stop at (item.End next) = (at ≤ next) × (next ≤ stop)
+ItemIn stop at (item.Item start end inner) = (at < start) × (start ≤ end) × (end ≤ stop)
+
+pub record Bounded (h : Headers) : Type 0 where
+  pub element-in : (d : List ℕ) (delimited : Bool) (left stop at least : ℕ) → ElementIn stop at (h .element d delimited left stop at least)
+  pub item-in : (d : List ℕ) (inSequence delimited : Bool) (stop at : ℕ) → ItemIn stop at (h .item d inSequence delimited stop at)
+
+pub explicit-bounded : Bounded explicit
+explicit-bounded = record {
+  element-in = λ d delimited left stop at least. from d delimited left stop at least (elementAt d delimited left stop at least) (element-facts d delimited left stop at least);
+  item-in = λ d inSequence delimited stop at. from-item d inSequence delimited stop at (itemAt d inSequence delimited stop at) (item-facts d inSequence delimited stop at);
+}
+  where
+    from : (d : List ℕ) (delimited : Bool) (left stop at least : ℕ) (p : ElementHeader) → ElementFacts d delimited left stop at least p → ElementIn stop at p
+    from d delimited left stop at least (element.Refused number) f = f
+    from d delimited left stop at least (element.End next) f = (f .order, f .inside)
+    from d delimited left stop at least (element.Value tag vr start end) f = omega (arith, f .1 .header, f .1 .order, f .1 .inside)
+    from d delimited left stop at least (element.Sequence tag start end inner) f = omega (arith, f .1 .starts, f .2, f .3)
+    from d delimited left stop at least (element.Fragments tag start) f = omega (arith, f .1 .starts, f .1 .inside)
+
+    from-item : (d : List ℕ) (inSequence delimited : Bool) (stop at : ℕ) (p : ItemHeader) → ItemFacts d inSequence delimited stop at p → ItemIn stop at p
+    from-item d inSequence delimited stop at (item.Refused number) f = f
+    from-item d inSequence delimited stop at (item.End next) f = (f .order, f .inside)
+    from-item d inSequence delimited stop at (item.Item start end inner) f = omega (arith, f .0 .starts, f .0 .order, f .0 .inside)

@@ -1,0 +1,10 @@
+pub mod Checks
+pub mod Bounds
+pub mod Unfolding
+pub mod Outcomes
+pub mod OneSteps
+pub mod Steps
+pub mod Guarantees
+pub mod Order
+pub mod LookupSteps
+pub mod Theorems

@@ -1,0 +1,95 @@
+-- The theorems that specs/Theorems.antt states. Assumes nothing.
+use Prim.Native.Nat.{ℕ, suc, _-_}
+use mathlib.Core.Path.{_≡_, refl, sym, ap, _∙_}
+use mathlib.Core.Bool.{Bool, true, false, true≢false, false≢true}
+use mathlib.Core.List.{List}
+use mathlib.Core.Option.{Option, some}
+use mathlib.Core.Option as Opt
+use native.Mathlib.Omega.{arith}
+use lib.ListN.{length}
+use lib.Dec.{ltb}
+use borrow.Author.Tests.{ltb-true, ltb-false}
+use Rattle.answer.specs.declared.Answer.{Answer}
+use Rattle.answer.specs.Answer as answer
+use Rattle.dataset.specs.Tree.{Element, Elements}
+use Rattle.dataset.specs.Lookup.{find, foundOf, foundIn, found}
+use Rattle.dataset.proofs.LookupSteps.{found-inside}
+use Rattle.dataset.specs.Reading.{Reading, fault, read, explicit, elementsAt, sizeLimit, levels, dataSet, answerOf, WellFormed}
+use Rattle.dataset.specs.Theorems.{EvenLength, Refusal, FaultsInside, InOrder, FuelSuffices, Unfolds, ValueInside}
+use Rattle.dataset.proofs.Bounds.{explicit-bounded}
+use Rattle.dataset.proofs.Unfolding.{Within, FaultIn, elements-within, elements-enough, elements-are, items-are, fragments-are}
+use Rattle.dataset.proofs.Steps.{data-set-is, data-set-over}
+use Rattle.dataset.proofs.Guarantees.{data-set-read}
+use Rattle.dataset.proofs.Order.{elements-end}
+
+within-fault : {A : Type 0} (lo hi : ℕ) (p : Reading A) (f : Answer) → Within lo hi p → p ≡ fault f → FaultIn lo hi f
+within-fault lo hi (fault g) f w e = let q : g ≡ f = cc in rw (← q) w
+within-fault lo hi (read a n) f w e = absurd (true≢false (cc))
+
+pub faults-inside : FaultsInside
+unfolding elementsAt
+faults-inside d f e = go (ltb sizeLimit (length d)) refl
+  where
+    go : (b : Bool) → ltb sizeLimit (length d) ≡ b → Refusal d f
+    go true b =
+        let q : _≡_ {A = Reading Elements} (fault (answer.refused 1 0)) (fault f) = sym (data-set-over d (ltb-true sizeLimit (length d) b)) ∙ e in
+        let z : answer.refused 1 0 ≡ f = cc in
+        rw (← z) record { least = omega arith; most = omega arith; inside = omega arith; nothing = refl }
+    go false b =
+        let w = within-fault 0 (length d) (elementsAt explicit d false levels (length d) 0 0) f
+        (elements-within explicit explicit-bounded (suc (length d - 0)) d false levels (length d) 0 0 (omega arith) (omega arith))
+        (sym (data-set-is d (ltb-false sizeLimit (length d) b)) ∙ e) in
+        record { least = omega (arith, w .number); most = omega (arith, w .number); inside = w .inside; nothing = w .nothing }
+
+pub in-order : InOrder
+in-order d es next e = let r = data-set-read d es next e in record { tree = r .tree; whole = r .whole }
+
+-- a well-formed data set is read
+pub record IsTree (d : List ℕ) : Type 0 where
+  pub elements : Elements
+  pub next : ℕ
+  pub is : dataSet d ≡ read elements next
+
+pub well-formed-read : (d : List ℕ) → WellFormed d → IsTree d
+well-formed-read d w = go (dataSet d) refl
+  where
+    go : (p : Reading Elements) → dataSet d ≡ p → IsTree d
+    go (fault f) e =
+        let r = faults-inside d f e in
+        let z : f ≡ answer.accepted 0 = sym (ap answerOf e) ∙ w in
+        let n : f .number ≡ 0 = ap (λ (a : Answer). a .number) z in
+        absurd (omega (arith, r .least, n))
+    go (read es n) e = record { elements = es; next = n; is = e }
+
+pub even-length : EvenLength
+even-length d w =
+    let t = well-formed-read d w in
+    let r = data-set-read d (t .elements) (t .next) (t .is) in
+    let k = elements-end (t .elements) d levels 0 0 (t .next) (r .tree) in
+    omega (arith, k .even, r .whole)
+
+pub fuel-suffices : FuelSuffices
+fuel-suffices n d delimited left stop at least h l = elements-enough explicit explicit-bounded n d delimited left stop at least h l
+
+pub unfolds : Unfolds
+unfolds d delimited left stop at h = record {
+  elements = λ least. elements-are explicit explicit-bounded d delimited left stop at least h;
+  items = items-are explicit explicit-bounded d delimited left stop at h;
+  fragments = fragments-are explicit explicit-bounded d left stop at h;
+}
+
+pub value-inside : ValueInside
+unfolding found foundIn foundOf
+value-inside d tag = record { inside = found-inside d tag (found d tag) refl; stands = go (dataSet d); otherwise = other (dataSet d) }
+  where
+    go : (p : Reading Elements) → foundIn (length d) tag p .present ≡ true → answerOf p ≡ answer.accepted 0
+    go (fault f) e = absurd (false≢true e)
+    go (read es n) e = refl
+
+    missing : (o : Option Element) → foundOf (length d) o .present ≡ false → (foundOf (length d) o .start ≡ length d) × (foundOf (length d) o .length ≡ 0)
+    missing Opt.none e = (refl, refl)
+    missing (some x) e = absurd (true≢false e)
+
+    other : (p : Reading Elements) → foundIn (length d) tag p .present ≡ false → (foundIn (length d) tag p .start ≡ length d) × (foundIn (length d) tag p .length ≡ 0)
+    other (fault f) e = (refl, refl)
+    other (read es n) e = missing (find tag es) e

@@ -1,0 +1,42 @@
+-- `read` meets its contract: by the laws on a whole data set. Assumes nothing.
+use Rattle.dataset.proofs.Steps as steps
+use borrow.Author.Needs.{needs}
+use Rattle.dataset.proofs.reading.read.Statement.{statement}
+use Rattle.dataset.proofs.reading.read.Tie as tie
+
+refused-requires : tie.Need-refused-requires
+refused-requires c κs = search needs
+
+returns : tie.Need-returns
+returns c = search steps.read-over
+
+read-elements-requires : tie.Need-read-elements-requires
+read-elements-requires c κs = search needs
+
+enum-known-fault : tie.Need-enum-known-fault
+enum-known-fault c = search needs
+
+enum-told : tie.Need-enum-told
+enum-told c = search needs
+
+accepted-requires : tie.Need-accepted-requires
+accepted-requires c κs = search needs
+
+returns-2 : tie.Need-returns-2
+returns-2 c = search steps.read-refused
+
+returns-3 : tie.Need-returns-3
+returns-3 c = search steps.read-accepted
+
+pub read-spec : {M : Type 1} → statement M
+read-spec =
+    tie.close
+    (tie.spec
+    refused-requires
+    returns
+    read-elements-requires
+    enum-known-fault
+    enum-told
+    accepted-requires
+    returns-2
+    returns-3)

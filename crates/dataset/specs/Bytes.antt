@@ -1,0 +1,24 @@
+-- Numbers, tags and VRs as a data set codes them. Assumes nothing.
+use Prim.Native.Nat.{ℕ, _+_, _-_, _*_}
+use mathlib.Core.List.{List}
+use lib.ListN.{getD, take, drop}
+
+-- the two-byte number at i: "two bytes each, low byte first" (PS3.5, 7.3)
+unfoldable pub num16 : List ℕ → ℕ → ℕ
+num16 d i = getD d i 0 + 256 * getD d (i + 1) 0
+
+-- the four-byte number at i, low byte first (PS3.5, 7.3)
+unfoldable pub num32 : List ℕ → ℕ → ℕ
+num32 d i = num16 d i + 65536 * num16 d (i + 2)
+
+-- the tag at i: "A tag compares as group x 65,536 + element."
+unfoldable pub tagAt : List ℕ → ℕ → ℕ
+tagAt d i = num16 d i * 65536 + num16 d (i + 2)
+
+-- the VR of the element at i: "two letters of VR", as one number (`vr` of Vr.antt)
+unfoldable pub vrAt : List ℕ → ℕ → ℕ
+vrAt d i = getD d (i + 4) 0 * 256 + getD d (i + 5) 0
+
+-- the bytes of d from offset `from` up to offset `to`
+unfoldable pub between : List ℕ → (from to : ℕ) → List ℕ
+between d from to = take (to - from) (drop from d)

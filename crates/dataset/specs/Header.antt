@@ -1,0 +1,112 @@
+-- The checks at one header, in the written order: 01, "Reading the data set". Assumes nothing.
+use Prim.Native.Nat.{ℕ, _+_, _-_, _%_}
+use mathlib.Core.Bool.{Bool, true, false, not, _&&_, _||_}
+use mathlib.Core.List.{List}
+use lib.ListN.{length}
+use lib.Dec.{ltb, eqb}
+use Rattle.dataset.specs.If.{if_then_else_}
+use Rattle.dataset.specs.Bytes.{num16, num32, tagAt, vrAt}
+use Rattle.dataset.specs.Vr.{formOf, OB, SQ}
+use Rattle.dataset.specs.declared.vr.Form.{Form}
+use Rattle.dataset.specs.declared.vr.Form.the-variants.{Short, Long, Unknown}
+use Rattle.dataset.specs.declared.header.ElementHeader.{ElementHeader}
+use Rattle.dataset.specs.declared.header.ElementHeader.the-variants as element
+use Rattle.dataset.specs.declared.header.ItemHeader.{ItemHeader}
+use Rattle.dataset.specs.declared.header.ItemHeader.the-variants as item
+
+-- "FFFFFFFF (undefined)"
+abbrev pub undefined : ℕ
+undefined = 0xFFFFFFFF
+
+-- "item (FFFE,E000)"
+abbrev pub itemTag : ℕ
+itemTag = 0xFFFEE000
+
+-- "An item of undefined length is closed by (FFFE,E00D)"
+abbrev pub itemDelimiter : ℕ
+itemDelimiter = 0xFFFEE00D
+
+-- "A sequence of undefined length is closed by (FFFE,E0DD)"; fragments too
+abbrev pub sequenceDelimiter : ℕ
+sequenceDelimiter = 0xFFFEE0DD
+
+-- the extent up to `stop` has no place `at`, or does not lie inside the data: it has too few bytes
+abbrev pub outside : List ℕ → (stop at : ℕ) → Bool
+outside d stop at = ltb (length d) stop || ltb stop at
+
+-- an extent of defined length is filled exactly up to `at`
+unfoldable pub endsAt : (delimited : Bool) (stop at : ℕ) → Bool
+endsAt delimited stop at = not delimited && eqb at stop
+
+-- the delimiter stands at `at`, "of length 0", in an extent that it closes (`delimited`)
+unfoldable pub closedBy : List ℕ → (delimiter : ℕ) (delimited : Bool) (at : ℕ) → Bool
+closedBy d delimiter delimited at = delimited && (eqb (tagAt d at) delimiter && eqb (num32 d (at + 4)) 0)
+
+-- ---- an element
+
+-- "length odd, or FFFFFFFF on a VR other than SQ and OB, 7"
+abbrev pub badLength : (vr len : ℕ) → Bool
+badLength vr len = if eqb len undefined then not (eqb vr SQ || eqb vr OB) else eqb (len % 2) 1
+
+-- ".. 7; SQ at level 16, 8; value past the extent, 2." An undefined length has no end of its own: the extent's stands for it.
+unfoldable pub valueBy : (tag vr left stop start len : ℕ) → ElementHeader
+valueBy tag vr left stop start len =
+    if badLength vr len then element.Refused 7 else
+    if eqb vr SQ && eqb left 0 then element.Refused 8 else
+    if eqb len undefined then (if eqb vr SQ then element.Sequence tag start stop true else element.Fragments tag start) else
+    if ltb (stop - start) len then element.Refused 2 else
+    if eqb vr SQ then element.Sequence tag start (start + len) false else
+    element.Value tag vr start (start + len)
+
+-- "long form with fewer than 12 bytes left, 2; reserved not zero, 6; .."
+unfoldable pub longAt : List ℕ → (tag vr left stop at : ℕ) → ElementHeader
+longAt d tag vr left stop at =
+    if ltb (stop - at) 12 then element.Refused 2 else
+    if not (eqb (num16 d (at + 6)) 0) then element.Refused 6 else
+    valueBy tag vr left stop (at + 12) (num32 d (at + 8))
+
+-- "VR in neither list, 5; .."
+unfoldable pub byForm : Form → List ℕ → (tag vr left stop at : ℕ) → ElementHeader
+byForm Short d tag vr left stop at = valueBy tag vr left stop (at + 8) (num16 d (at + 6))
+byForm Long d tag vr left stop at = longAt d tag vr left stop at
+byForm Unknown d tag vr left stop at = element.Refused 5
+
+unfoldable pub vrOnAt : List ℕ → (tag left stop at : ℕ) → ElementHeader
+vrOnAt d tag left stop at = byForm (formOf (vrAt d at)) d tag (vrAt d at) left stop at
+
+-- What stands at `at` in an element's place, in an extent that ends at `stop`, or before it at an item delimiter (`delimited`).
+-- `left`: 16 less the level. `least`: one more than the tag before, or 0 where there is none.
+-- "fewer than 8 bytes left in the enclosing extent, 2" (the closing delimiter is "tested right after the 8-byte test");
+-- "group FFFE, 3; tag not above the tag before it in the same data set, 4; .."
+unfoldable pub elementAt : List ℕ → (delimited : Bool) (left stop at least : ℕ) → ElementHeader
+elementAt d delimited left stop at least =
+    if outside d stop at then element.Refused 2 else
+    if endsAt delimited stop at then element.End at else
+    if ltb (stop - at) 8 then element.Refused 2 else
+    if closedBy d itemDelimiter delimited at then element.End (at + 8) else
+    if eqb (num16 d at) 0xFFFE then element.Refused 3 else
+    if ltb (tagAt d at) least then element.Refused 4 else
+    vrOnAt d (tagAt d at) left stop at
+
+-- ---- an item or a fragment
+
+-- "A defined item length is even (else 7) and inside the extent (else 2)"; fragments are "items of defined even length (undefined
+-- or odd: 7)": FFFFFFFF is odd
+unfoldable pub itemBy : (inSequence : Bool) (stop start len : ℕ) → ItemHeader
+itemBy inSequence stop start len =
+    if eqb len undefined && inSequence then item.Item start stop true else
+    if eqb (len % 2) 1 then item.Refused 7 else
+    if ltb (stop - start) len then item.Refused 2 else
+    item.Item start (start + len) false
+
+-- What stands at `at` in the place of an item of a sequence (`inSequence`) or of a fragment, in an extent that ends at `stop`, or
+-- before it at a sequence delimiter (`delimited`). "each header takes 8 bytes (fewer: 2): item (FFFE,E000) and length"; "Another tag,
+-- a delimiter of other length, or a delimiter where a defined length rules, is 3."
+unfoldable pub itemAt : List ℕ → (inSequence delimited : Bool) (stop at : ℕ) → ItemHeader
+itemAt d inSequence delimited stop at =
+    if outside d stop at then item.Refused 2 else
+    if endsAt delimited stop at then item.End at else
+    if ltb (stop - at) 8 then item.Refused 2 else
+    if closedBy d sequenceDelimiter delimited at then item.End (at + 8) else
+    if not (eqb (tagAt d at) itemTag) then item.Refused 3 else
+    itemBy inSequence stop (at + 8) (num32 d (at + 4))

@@ -1,0 +1,9 @@
+pub mod If
+pub mod Bytes
+pub mod Vr
+pub mod Header
+pub mod Tree
+pub mod Reading
+pub mod Lookup
+pub mod Order
+pub mod Theorems

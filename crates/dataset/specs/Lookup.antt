@@ -1,0 +1,57 @@
+-- The lookup: 01, "Numbers that come back", its last paragraph. Assumes nothing.
+use Prim.Native.Nat.{ℕ, _+_, _-_}
+use mathlib.Core.Path.{_≡_}
+use mathlib.Core.Bool.{Bool, true, false}
+use mathlib.Core.List.{List}
+use mathlib.Core.Option.{Option, some}
+use mathlib.Core.Option as Opt
+use lib.Dec.{eqb}
+use lib.ListN.{length}
+use Rattle.answer.specs.declared.Answer.{Answer}
+use Rattle.answer.specs.Answer as answer
+use Rattle.dataset.specs.If.{if_then_else_}
+use Rattle.dataset.specs.Bytes.{between}
+use Rattle.dataset.specs.Tree.{Element, Elements, none, and, tagOf, spanOf}
+use Rattle.dataset.specs.Reading.{Reading, fault, read, dataSet}
+use Rattle.dataset.specs.declared.lookup.Found.{Found}
+
+-- the element of a "top-level tag": items are not searched
+unfoldable pub find : ℕ → Elements → Option Element
+find tag none = Opt.none
+find tag (and e rest) = if eqb (tagOf e) tag then some e else find tag rest
+
+-- "Where the set is refused or the tag absent it is the empty part at the end", and a no
+abbrev pub absent : Answer → (size : ℕ) → Found
+absent a size = record { answer = a; present = false; start = size; length = 0 }
+
+-- "the part of the lent data set that is the value of a top-level tag, without a closing sequence delimiter", and a yes
+abbrev pub present : (start end : ℕ) → Found
+present start end = record { answer = answer.accepted 0; present = true; start = start; length = end - start }
+
+-- the element that was found, or none: in a data set of `size` bytes that is good
+unfoldable pub foundOf : (size : ℕ) → Option Element → Found
+foundOf size Opt.none = absent (answer.accepted 0) size
+foundOf size (some e) = present (spanOf e .start) (spanOf e .end)
+
+-- "Beside it stand the reading's number and position (0, or 1 to 8) and a yes or no: whether the tag stands there."
+unfoldable pub foundIn : (size tag : ℕ) → Reading Elements → Found
+foundIn size tag (fault f) = absent f size
+foundIn size tag (read es next) = foundOf size (find tag es)
+
+-- the lookup of a tag in a data set: one reading of the whole
+unfoldable pub found : List ℕ → (tag : ℕ) → Found
+found d tag = foundIn (length d) tag (dataSet d)
+
+-- What lookup hands back: a part of the lent data set, not a copy, by its offset and its length, and the three answers. A place is a block of
+-- memory and an offset in it: `lent` is where the data set starts, `place` where the part starts.
+pub record Lookup (f : Found) (lent : ℕ × ℕ) (d : List ℕ) (place : ℕ × ℕ) (value : List ℕ) (number position : ℕ) (present : Bool) : Type 0 where
+  pub block : place .0 ≡ lent .0
+  pub offset : place .1 ≡ lent .1 + f .start
+  pub part : value ≡ between d (f .start) (f .start + f .length)
+  pub numbered : number ≡ f .answer .number
+  pub positioned : position ≡ f .answer .position
+  pub stands : present ≡ f .present
+
+-- ---- no part of what a reader must believe: what is found after one element more (`hit`: it has the tag), for an inner contract
+unfoldable pub orNext : Found → (hit : Bool) → Found → Found
+orNext f hit g = if f .present then f else if hit then g else f

@@ -1,0 +1,179 @@
+-- The reading of a data set: "The first fault from the left is given, at the offset where that element's, item's or delimiter's header starts"
+-- (01, "Reading the data set"), or the tree of its elements. Assumes nothing.
+use Prim.Native.Nat.{ℕ, zero, suc, _+_, _-_, _≤_}
+use mathlib.Core.Bool.{Bool, true, false}
+use mathlib.Core.List.{List, [], _∷_}
+use mathlib.Core.Path.{_≡_}
+use lib.ListN.{length}
+use lib.Dec.{ltb}
+use Rattle.answer.specs.declared.Answer.{Answer}
+use Rattle.answer.specs.Answer as answer
+use Rattle.dataset.specs.If.{if_then_else_}
+use Rattle.dataset.specs.Header.{elementAt, itemAt}
+use Rattle.dataset.specs.Tree.{Span, span, Element, value, sequence, fragments, Elements, none, and, Items, last, item, tagOf, vrOf, spanOf}
+use Rattle.dataset.specs.declared.header.ElementHeader.{ElementHeader}
+use Rattle.dataset.specs.declared.header.ElementHeader.the-variants as header
+use Rattle.dataset.specs.declared.header.ItemHeader.{ItemHeader}
+use Rattle.dataset.specs.declared.header.ItemHeader.the-variants as place
+use Rattle.dataset.specs.declared.reading.Outcome.{Outcome}
+use Rattle.dataset.specs.declared.reading.Outcome.the-variants as outcome
+use Rattle.dataset.specs.declared.reading.OneOutcome.{OneOutcome}
+use Rattle.dataset.specs.declared.reading.OneOutcome.the-variants as one
+
+-- what a reading gives: the first fault, or what was read and the offset past it
+pub data Reading (A : Type 0) : Type 0 where
+  fault : Answer → Reading A
+  read : A → (next : ℕ) → Reading A
+
+-- one reading after another: the first fault from the left stands
+infixl 10 _>>=_
+abbrev pub _>>=_ : {A B : Type 0} → Reading A → (A × ℕ → Reading B) → Reading B
+fault f >>= k = fault f
+read a next >>= k = k (a, next)
+
+-- what is read in an element's place: the end of the data set, or one element
+pub data One : Type 0 where
+  ended : One
+  element : Element → One
+
+-- The checks at one header, in an element's place and in the place of an item or fragment. The reading is defined over them.
+pub record Headers : Type 0 where
+  pub element : List ℕ → (delimited : Bool) (left stop at least : ℕ) → ElementHeader
+  pub item : List ℕ → (inSequence delimited : Bool) (stop at : ℕ) → ItemHeader
+
+-- those of Explicit VR Little Endian
+abbrev pub explicit : Headers
+explicit = record { element = elementAt; item = itemAt }
+
+-- the refusal of the header at `at`: "at the offset where that element's, item's or delimiter's header starts"
+abbrev pub refusal : (at number : ℕ) → Answer
+refusal at number = answer.refused number at
+
+-- One element, by its header. Handed in are the refusal of each number here, and the readers of its items and of its fragments.
+-- A closing delimiter, of 8 bytes, is no part of the value.
+unfoldable pub byHeader : (refuse : (number : ℕ) → Answer) (items : (delimited : Bool) (stop start : ℕ) → Reading Items)
+    (parts : (start : ℕ) → Reading (List Span)) (at : ℕ) → ElementHeader → Reading One
+byHeader refuse items parts at (header.Refused number) = fault (refuse number)
+byHeader refuse items parts at (header.End next) = read ended next
+byHeader refuse items parts at (header.Value tag vr start stop) = read (element (value at tag vr (span start stop))) stop
+byHeader refuse items parts at (header.Sequence tag start stop delimited) = do
+  (inside, next) ← items delimited stop start
+  read (element (sequence at tag (span start (if delimited then next - 8 else next)) inside)) next
+byHeader refuse items parts at (header.Fragments tag start) = do
+  (inside, next) ← parts start
+  read (element (fragments at tag (span start (next - 8)) inside)) next
+
+-- The elements of a data set are one element and the rest. Handed in is the reader of the rest, with the least tag.
+unfoldable pub byOne : (elements : (next least : ℕ) → Reading Elements) → One × ℕ → Reading Elements
+byOne elements (ended, next) = read none next
+byOne elements (element e, next) = do
+  (rest, after) ← elements next (tagOf e + 1)
+  read (and e rest) after
+
+-- Items are one item and the rest. Handed in are the refusal of each number here, and the readers of an item's elements and of the rest.
+unfoldable pub byItem : (refuse : (number : ℕ) → Answer) (elements : (delimited : Bool) (stop start : ℕ) → Reading Elements)
+    (items : (next : ℕ) → Reading Items) (at : ℕ) → ItemHeader → Reading Items
+byItem refuse elements items at (place.Refused number) = fault (refuse number)
+byItem refuse elements items at (place.End next) = read last next
+byItem refuse elements items at (place.Item start stop delimited) = do
+  (inside, next) ← elements delimited stop start
+  (rest, after) ← items next
+  read (item at inside rest) after
+
+-- Fragments are one fragment and the rest: "Their bytes aren't looked into".
+unfoldable pub byFragment : (refuse : (number : ℕ) → Answer) (parts : (next : ℕ) → Reading (List Span)) → ItemHeader → Reading (List Span)
+byFragment refuse parts (place.Refused number) = fault (refuse number)
+byFragment refuse parts (place.End next) = read [] next
+byFragment refuse parts (place.Item start stop delimited) = do
+  (rest, after) ← parts stop
+  read (span start stop ∷ rest) after
+
+module _ (h : Headers) where
+  -- The recursion goes by a number that bounds its depth. Where it is used up the fault's number is 0, which `elementsAt` and the others
+  -- below never give (`FuelSuffices` and `FaultsInside` of Theorems.antt). `left` is 16 less the level: that of the data set that is read,
+  -- or that of the sequence or OB.
+  unfoldable pub fragmentsBy : ℕ → List ℕ → (left stop at : ℕ) → Reading (List Span)
+  fragmentsBy zero d left stop at = fault (refusal at 0)
+  fragmentsBy (suc n) d left stop at = byFragment (refusal at) (fragmentsBy n d left stop) (h .item d false true stop at)
+
+  -- "elements in the items of a level n sequence are at level n+1"; tag order starts anew in each item
+  unfoldable mutual
+    pub elementsBy : ℕ → List ℕ → (delimited : Bool) (left stop at least : ℕ) → Reading Elements
+    elementsBy zero d delimited left stop at least = fault (refusal at 0)
+    elementsBy (suc n) d delimited left stop at least =
+        byHeader
+        (refusal at)
+        (λ inner end start. itemsBy n d inner left end start)
+        (fragmentsBy n d left stop)
+        at
+        (h .element d delimited left stop at least)
+        >>= byOne (λ next above. elementsBy n d delimited left stop next above)
+
+    pub itemsBy : ℕ → List ℕ → (delimited : Bool) (left stop at : ℕ) → Reading Items
+    itemsBy zero d delimited left stop at = fault (refusal at 0)
+    itemsBy (suc n) d delimited left stop at =
+        byItem
+        (refusal at)
+        (λ inner end start. elementsBy n d inner (left - 1) end start 0)
+        (λ next. itemsBy n d delimited left stop next)
+        at
+        (h .item d true delimited stop at)
+
+  -- the elements, items and fragments from `at` on, in an extent that ends at `stop`, or before it at a delimiter (`delimited`)
+  unfoldable pub elementsAt : List ℕ → (delimited : Bool) (left stop at least : ℕ) → Reading Elements
+  elementsAt d delimited left stop at least = elementsBy (suc (stop - at)) d delimited left stop at least
+
+  unfoldable pub itemsAt : List ℕ → (delimited : Bool) (left stop at : ℕ) → Reading Items
+  itemsAt d delimited left stop at = itemsBy (suc (stop - at)) d delimited left stop at
+
+  unfoldable pub fragmentsAt : List ℕ → (left stop at : ℕ) → Reading (List Span)
+  fragmentsAt d left stop at = fragmentsBy (suc (stop - at)) d left stop at
+
+  -- what is read at `at` in an element's place
+  unfoldable pub oneAt : List ℕ → (delimited : Bool) (left stop at least : ℕ) → Reading One
+  oneAt d delimited left stop at least =
+      byHeader (refusal at) (λ inner. itemsAt d inner left) (fragmentsAt d left stop) at (h .element d delimited left stop at least)
+
+-- "At most 1,048,576 bytes"
+abbrev pub sizeLimit : ℕ
+sizeLimit = 1048576
+
+-- "The top is level 0"; "a sequence at level 16 is refused with 8"
+abbrev pub levels : ℕ
+levels = 16
+
+-- the reading of a whole data set, which "may be empty"; over the size it is 1, before anything is read
+unfoldable pub dataSet : List ℕ → Reading Elements
+dataSet d = if ltb sizeLimit (length d) then fault (answer.refused 1 0) else elementsAt explicit d false levels (length d) 0 0
+
+-- the answer to the caller: the fault, or number 0
+abbrev pub answerOf : {A : Type 0} → Reading A → Answer
+answerOf (fault f) = f
+answerOf (read a next) = answer.accepted 0
+
+-- "A data set is well-formed when none of the conditions 1 to 8 holds for it."
+abbrev pub WellFormed : List ℕ → Type 0
+WellFormed d = answerOf (dataSet d) ≡ answer.accepted 0
+
+-- ---- what the readers of the code answer of a reading
+
+-- the fault, or the offset past what was read
+abbrev pub outcomeOf : {A : Type 0} → Reading A → Outcome
+outcomeOf (fault f) = outcome.Refused f
+outcomeOf (read a next) = outcome.Next next
+
+-- the fault, the end, or an element with what the tree has of it beside its inside
+abbrev pub oneOutcomeOf : Reading One → OneOutcome
+oneOutcomeOf (fault f) = one.Refused f
+oneOutcomeOf (read ended next) = one.End next
+oneOutcomeOf (read (element e) next) = one.Element (tagOf e) (vrOf e) (spanOf e .start) (spanOf e .end) next
+
+-- ---- no part of what a reader must believe, for an inner contract: an element that holds items or fragments, by what their reader answers
+
+abbrev pub PastDelimiter : Outcome → Type 0
+PastDelimiter (outcome.Refused f) = Unit {0}
+PastDelimiter (outcome.Next next) = 8 ≤ next
+
+unfoldable pub holdingOf : (tag vr start : ℕ) (delimited : Bool) → Outcome → OneOutcome
+holdingOf tag vr start delimited (outcome.Refused f) = one.Refused f
+holdingOf tag vr start delimited (outcome.Next next) = one.Element tag vr start (if delimited then next - 8 else next) next

@@ -1,0 +1,66 @@
+-- What is true of the reading: statements that a reader of the definitions would ask for, each proved in proofs/Theorems.antt. Assumes nothing.
+use Prim.Native.Nat.{ℕ, _+_, _-_, _%_, _≤_, _<_}
+use mathlib.Core.Path.{_≡_}
+use mathlib.Core.Bool.{Bool, true, false}
+use mathlib.Core.List.{List}
+use lib.ListN.{length}
+use Rattle.answer.specs.declared.Answer.{Answer}
+use Rattle.dataset.specs.Header.{itemAt}
+use Rattle.dataset.specs.Tree.{Elements}
+use Rattle.dataset.specs.Reading.{fault, read, _>>=_, explicit, byOne, byItem, byFragment, elementsBy, elementsAt, itemsAt, fragmentsAt, oneAt, refusal, levels, dataSet, WellFormed}
+use Rattle.dataset.specs.Lookup.{found}
+use Rattle.dataset.specs.declared.lookup.Found.{Found}
+use Rattle.dataset.specs.Order.{ElementsLie}
+
+-- A well-formed data set has even length.
+abbrev pub EvenLength : Type 0
+EvenLength = (d : List ℕ) → WellFormed d → length d % 2 ≡ 0
+
+-- A refusal of the reading has one of the numbers 1 to 8, an offset that is at most the data's length, and length 0.
+pub record Refusal (d : List ℕ) (f : Answer) : Type 0 where
+  pub least : 1 ≤ f .number
+  pub most : f .number ≤ 8
+  pub inside : f .position ≤ length d
+  pub nothing : f .length ≡ 0
+
+abbrev pub FaultsInside : Type 0
+FaultsInside = (d : List ℕ) (f : Answer) → dataSet d ≡ fault f → Refusal d f
+
+-- The elements of the tree lie in order, each in the extent of what holds it, with ascending tags and at levels 0 to 15 for sequences;
+-- they fill the data set.
+pub record Placed (d : List ℕ) (es : Elements) (next : ℕ) : Type 0 where
+  pub tree : ElementsLie es d levels 0 0 next
+  pub whole : next ≡ length d
+
+abbrev pub InOrder : Type 0
+InOrder = (d : List ℕ) (es : Elements) (next : ℕ) → dataSet d ≡ read es next → Placed d es next
+
+-- The bound on the depth of the recursion is enough: any number above the bytes that are left gives the same reading.
+abbrev pub FuelSuffices : Type 0
+FuelSuffices =
+    (n : ℕ) (d : List ℕ) (delimited : Bool) (left stop at least : ℕ) → at ≤ stop → stop - at < n
+    → elementsBy explicit n d delimited left stop at least ≡ elementsAt explicit d delimited left stop at least
+
+-- So the reading obeys equations with no bound in them: the elements of a data set are one element and the rest, items are one item, whose
+-- elements are a data set one level down, and the rest, and fragments one fragment and the rest.
+pub record Equations (d : List ℕ) (delimited : Bool) (left stop at : ℕ) : Type 0 where
+  pub elements : (least : ℕ)
+      → elementsAt explicit d delimited left stop at least
+      ≡ (oneAt explicit d delimited left stop at least >>= byOne (elementsAt explicit d delimited left stop))
+  pub items :
+      itemsAt explicit d delimited left stop at
+      ≡ byItem (refusal at) (λ inner end start. elementsAt explicit d inner (left - 1) end start 0) (itemsAt explicit d delimited left stop) at
+      (itemAt d true delimited stop at)
+  pub fragments : fragmentsAt explicit d left stop at ≡ byFragment (refusal at) (fragmentsAt explicit d left stop) (itemAt d false true stop at)
+
+abbrev pub Unfolds : Type 0
+Unfolds = (d : List ℕ) (delimited : Bool) (left stop at : ℕ) → at ≤ stop → Equations d delimited left stop at
+
+-- What the lookup finds lies in the data set. The tag stands only in a well-formed data set, and elsewhere the part is the empty one at the end.
+pub record FoundInside (d : List ℕ) (f : Found) : Type 0 where
+  pub inside : f .start + f .length ≤ length d
+  pub stands : f .present ≡ true → WellFormed d
+  pub otherwise : f .present ≡ false → (f .start ≡ length d) × (f .length ≡ 0)
+
+abbrev pub ValueInside : Type 0
+ValueInside = (d : List ℕ) (tag : ℕ) → FoundInside d (found d tag)

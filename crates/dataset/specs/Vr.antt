@@ -1,0 +1,96 @@
+-- The VRs: 01, "Reading the data set", the lists of the short and the long form. Assumes nothing.
+use Prim.Native.Nat.{ℕ, _+_, _*_}
+use mathlib.Core.Bool.{Bool, false, _||_}
+use mathlib.Core.List.{List, [], _∷_}
+use lib.Dec.{eqb}
+use Rattle.dataset.specs.If.{if_then_else_}
+use Rattle.dataset.specs.declared.vr.Form.{Form}
+use Rattle.dataset.specs.declared.vr.Form.the-variants.{Short, Long, Unknown}
+
+-- a VR by the codes of its two letters, as one number
+abbrev pub vr : (first second : ℕ) → ℕ
+vr first second = first * 256 + second
+
+-- the letters' codes (ISO 646)
+abbrev A : ℕ
+A = 0x41
+
+abbrev B : ℕ
+B = 0x42
+
+abbrev C : ℕ
+C = 0x43
+
+abbrev D : ℕ
+D = 0x44
+
+abbrev E : ℕ
+E = 0x45
+
+abbrev F : ℕ
+F = 0x46
+
+abbrev H : ℕ
+H = 0x48
+
+abbrev I : ℕ
+I = 0x49
+
+abbrev L : ℕ
+L = 0x4C
+
+abbrev M : ℕ
+M = 0x4D
+
+abbrev N : ℕ
+N = 0x4E
+
+abbrev O : ℕ
+O = 0x4F
+
+abbrev P : ℕ
+P = 0x50
+
+abbrev Q : ℕ
+Q = 0x51
+
+abbrev S : ℕ
+S = 0x53
+
+abbrev T : ℕ
+T = 0x54
+
+abbrev U : ℕ
+U = 0x55
+
+abbrev W : ℕ
+W = 0x57
+
+-- "Short, two-byte length: AE AS AT CS DA DS DT FL FD IS LO LT PN SH SL SS ST TM UI UL US."
+abbrev pub shortForm : List ℕ
+shortForm =
+    vr A E ∷ vr A S ∷ vr A T ∷ vr C S ∷ vr D A ∷ vr D S ∷ vr D T ∷ vr F L ∷ vr F D ∷ vr I S ∷ vr L O ∷ vr L T ∷ vr P N
+    ∷ vr S H ∷ vr S L ∷ vr S S ∷ vr S T ∷ vr T M ∷ vr U I ∷ vr U L ∷ vr U S ∷ []
+
+-- "Long, two reserved zero bytes, then a four-byte length: OB OW OF SQ UT UN."
+abbrev pub longForm : List ℕ
+longForm = vr O B ∷ vr O W ∷ vr O F ∷ vr S Q ∷ vr U T ∷ vr U N ∷ []
+
+-- the VRs that the rules name
+abbrev pub OB : ℕ
+OB = vr O B
+
+abbrev pub SQ : ℕ
+SQ = vr S Q
+
+abbrev pub UN : ℕ
+UN = vr U N
+
+-- v is in the list
+unfoldable pub oneOf : ℕ → List ℕ → Bool
+oneOf v [] = false
+oneOf v (x ∷ xs) = eqb v x || oneOf v xs
+
+-- the form of a VR's header, or "VR in neither list"
+unfoldable pub formOf : ℕ → Form
+formOf v = if oneOf v shortForm then Short else if oneOf v longForm then Long else Unknown

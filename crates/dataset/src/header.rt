@@ -1,0 +1,261 @@
+// What stands at an offset of a data set, in an element's place or in an item's: the checks of one header, in their order.
+use crate::bytes;
+use crate::vr;
+use crate::vr::Form;
+ghost use mathlib.Core.Path.{_≡_};
+ghost use Prim.Native.Nat.{_+_, _≤_};
+ghost use lib.ListN.{length};
+ghost use Rattle.dataset.specs.Header.{valueBy, longAt, vrOnAt, endsAt, closedBy, elementAt, itemBy, itemAt};
+
+// What stands in an element's place.
+pub enum ElementHeader {
+    // refused, with this number
+    Refused(u8),
+    // the data set ends here; what follows it is at this offset
+    End(usize),
+    // a value that is not looked into, from start to end
+    Value {
+        tag: u32,
+        vr: u16,
+        start: usize,
+        end: usize,
+    },
+    // items from start on, up to end or to a sequence delimiter before end
+    Sequence {
+        tag: u32,
+        start: usize,
+        end: usize,
+        delimited: bool,
+    },
+    // fragments from start on, to a sequence delimiter
+    Fragments {
+        tag: u32,
+        start: usize,
+    },
+}
+
+// What stands in an item's or a fragment's place.
+pub enum ItemHeader {
+    // refused, with this number
+    Refused(u8),
+    // the items or fragments end here; what follows them is at this offset
+    End(usize),
+    // from start up to end, or to an item delimiter before end
+    Item {
+        start: usize,
+        end: usize,
+        delimited: bool,
+    },
+}
+
+const UNDEFINED: usize = 0xFFFFFFFF;
+
+const ITEM: u32 = 0xFFFEE000;
+
+const ITEM_DELIMITER: u32 = 0xFFFEE00D;
+
+const SEQUENCE_DELIMITER: u32 = 0xFFFEE0DD;
+
+// The checks of a length and a value that starts at `start`: 7, 8 and the last 2.
+fn value_by(tag: u32, vr: u16, left: u32, stop: usize, start: usize, len: usize) -> ElementHeader
+    requires { ⌜ start ≤ stop ⌝ }
+    ensures { λ r. ⌜ r ≡ valueBy tag vr left stop start len ⌝ }
+{
+    if len == UNDEFINED {
+        if vr == vr::SQ {
+            if left == 0 {
+                return ElementHeader::Refused(8);
+            }
+            return ElementHeader::Sequence {
+                tag,
+                start,
+                end: stop,
+                delimited: true,
+            };
+        }
+        if vr == vr::OB {
+            return ElementHeader::Fragments { tag, start };
+        }
+        return ElementHeader::Refused(7);
+    }
+    if len % 2 == 1 {
+        return ElementHeader::Refused(7);
+    }
+    if vr == vr::SQ {
+        if left == 0 {
+            return ElementHeader::Refused(8);
+        }
+        if stop - start < len {
+            return ElementHeader::Refused(2);
+        }
+        return ElementHeader::Sequence {
+            tag,
+            start,
+            end: start + len,
+            delimited: false,
+        };
+    }
+    if stop - start < len {
+        return ElementHeader::Refused(2);
+    }
+    ElementHeader::Value {
+        tag,
+        vr,
+        start,
+        end: start + len,
+    }
+}
+
+// Whether an extent of defined length ends at `at`.
+fn ends_at(delimited: bool, stop: usize, at: usize) -> bool
+    ensures { λ r. ⌜ r ≡ endsAt delimited stop at ⌝ }
+{
+    if delimited {
+        return false;
+    }
+    at == stop
+}
+
+// Whether the delimiter stands at `at`, with length 0, in an extent that it closes.
+fn closed_by(d: &[u8], delimiter: u32, delimited: bool, at: usize) -> bool
+    requires { ⌜ at + 8 ≤ length (now d) ⌝ }
+    ensures { λ r. ⌜ r ≡ closedBy (now (d .entry)) delimiter delimited at ⌝ }
+{
+    if !delimited {
+        return false;
+    }
+    if bytes::tag_at(d, at) != delimiter {
+        return false;
+    }
+    bytes::number32(d, at + 4) == 0
+}
+
+// The checks at an element of the long form, from its second test of the bytes left on.
+fn long_form(d: &[u8], tag: u32, vr: u16, left: u32, stop: usize, at: usize) -> ElementHeader
+    requires { ⌜ (at ≤ stop) × (stop ≤ length (now d)) ⌝ }
+    ensures { λ r. ⌜ r ≡ longAt (now (d .entry)) tag vr left stop at ⌝ }
+{
+    if stop - at < 12 {
+        return ElementHeader::Refused(2);
+    }
+    if bytes::number16(d, at + 6) != 0 {
+        return ElementHeader::Refused(6);
+    }
+    let len = bytes::number32(d, at + 8);
+    value_by(tag, vr, left, stop, at + 12, len as usize)
+}
+
+// The checks at an element from its VR on.
+fn vr_on(d: &[u8], tag: u32, left: u32, stop: usize, at: usize) -> ElementHeader
+    requires { ⌜ (at + 8 ≤ stop) × (stop ≤ length (now d)) ⌝ }
+    ensures { λ r. ⌜ r ≡ vrOnAt (now (d .entry)) tag left stop at ⌝ }
+{
+    let vr = bytes::vr_at(d, at);
+    match vr::form_of(vr) {
+        Form::Short => {
+            let len = bytes::number16(d, at + 6);
+            value_by(tag, vr, left, stop, at + 8, len as usize)
+        }
+        Form::Long => long_form(d, tag, vr, left, stop, at),
+        Form::Unknown => ElementHeader::Refused(5),
+    }
+}
+
+// What stands at `at` in an element's place: the checks at one element, in their order. The extent ends at `stop`, or before
+// it at an item delimiter (`delimited`); `left` is how many levels of sequences may follow, and `least` the least tag that
+// is above the one before.
+pub fn header(
+    d: &[u8],
+    delimited: bool,
+    left: u32,
+    stop: usize,
+    at: usize,
+    least: u64,
+) -> ElementHeader
+    ensures { λ r. ⌜ r ≡ elementAt (now (d .entry)) delimited left stop at least ⌝ }
+{
+    if d.len() < stop {
+        return ElementHeader::Refused(2);
+    }
+    if stop < at {
+        return ElementHeader::Refused(2);
+    }
+    if ends_at(delimited, stop, at) {
+        return ElementHeader::End(at);
+    }
+    if stop - at < 8 {
+        return ElementHeader::Refused(2);
+    }
+    if closed_by(d, ITEM_DELIMITER, delimited, at) {
+        return ElementHeader::End(at + 8);
+    }
+    if bytes::number16(d, at) == 0xFFFE {
+        return ElementHeader::Refused(3);
+    }
+    let tag = bytes::tag_at(d, at);
+    if (tag as u64) < least {
+        return ElementHeader::Refused(4);
+    }
+    vr_on(d, tag, left, stop, at)
+}
+
+// An item or a fragment by its length.
+fn item_by(in_sequence: bool, stop: usize, start: usize, len: usize) -> ItemHeader
+    requires { ⌜ start ≤ stop ⌝ }
+    ensures { λ r. ⌜ r ≡ itemBy in_sequence stop start len ⌝ }
+{
+    if len == UNDEFINED {
+        if in_sequence {
+            return ItemHeader::Item {
+                start,
+                end: stop,
+                delimited: true,
+            };
+        }
+        return ItemHeader::Refused(7);
+    }
+    if len % 2 == 1 {
+        return ItemHeader::Refused(7);
+    }
+    if stop - start < len {
+        return ItemHeader::Refused(2);
+    }
+    ItemHeader::Item {
+        start,
+        end: start + len,
+        delimited: false,
+    }
+}
+
+// What stands at `at` in the place of an item of a sequence (`in_sequence`) or of a fragment. The extent ends at `stop`, or
+// before it at a sequence delimiter (`delimited`).
+pub fn item_header(
+    d: &[u8],
+    in_sequence: bool,
+    delimited: bool,
+    stop: usize,
+    at: usize,
+) -> ItemHeader
+    ensures { λ r. ⌜ r ≡ itemAt (now (d .entry)) in_sequence delimited stop at ⌝ }
+{
+    if d.len() < stop {
+        return ItemHeader::Refused(2);
+    }
+    if stop < at {
+        return ItemHeader::Refused(2);
+    }
+    if ends_at(delimited, stop, at) {
+        return ItemHeader::End(at);
+    }
+    if stop - at < 8 {
+        return ItemHeader::Refused(2);
+    }
+    if closed_by(d, SEQUENCE_DELIMITER, delimited, at) {
+        return ItemHeader::End(at + 8);
+    }
+    if bytes::tag_at(d, at) != ITEM {
+        return ItemHeader::Refused(3);
+    }
+    let len = bytes::number32(d, at + 4);
+    item_by(in_sequence, stop, at + 8, len as usize)
+}

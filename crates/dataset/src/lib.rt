@@ -1,0 +1,6 @@
+// Data sets in Explicit VR Little Endian (PS3.5): headers, the reading, the lookup.
+mod bytes;
+pub mod header;
+pub mod lookup;
+pub mod reading;
+pub mod vr;

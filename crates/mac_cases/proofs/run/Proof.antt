@@ -1,0 +1,72 @@
+-- `run` is safe and ends. Assumes nothing.
+use mathlib.Core.Path.{_≡_}
+use borrow.Author.Needs.{needs}
+use Prim.Native.Nat.{_-_, _≤_}
+use lib.ListN.{length}
+use Rattle.mac_cases.proofs.run.Statement.{statement}
+use Rattle.mac_cases.proofs.run.Tie as tie
+
+abbrev Inv-loop : tie.InvT-loop
+Inv-loop text room₀ at₀ room at = (length room ≡ length room₀) × (at ≤ length text)
+
+abbrev μ-loop : tie.MeasureT-loop
+μ-loop text room₀ at₀ room at = length text - at
+
+loop-holds : tie.Need-loop-holds Inv-loop μ-loop
+loop-holds c = search needs
+
+until-requires : tie.Need-until-requires Inv-loop μ-loop
+until-requires c κs = search needs
+
+sub-run-case : tie.Need-sub-run-case Inv-loop μ-loop
+sub-run-case c = search needs
+
+part-run-case-start : tie.Need-part-run-case-start Inv-loop μ-loop
+part-run-case-start c = search needs
+
+part-run-case-end : tie.Need-part-run-case-end Inv-loop μ-loop
+part-run-case-end c = search needs
+
+run-case-requires : tie.Need-run-case-requires Inv-loop μ-loop
+run-case-requires c κs = search needs
+
+same-length : tie.Need-same-length Inv-loop μ-loop
+same-length c = search needs
+
+returns : tie.Need-returns Inv-loop μ-loop
+returns c = search needs
+
+add-at : tie.Need-add-at Inv-loop μ-loop
+add-at c = search needs
+
+loop-less : tie.Need-loop-less Inv-loop μ-loop
+loop-less c = search needs
+
+loop-again : tie.Need-loop-again Inv-loop μ-loop
+loop-again c = search needs
+
+same-length-2 : tie.Need-same-length-2 Inv-loop μ-loop
+same-length-2 c = search needs
+
+returns-2 : tie.Need-returns-2 Inv-loop μ-loop
+returns-2 c = search needs
+
+pub run-spec : {M : Type 1} → statement M
+run-spec =
+    tie.close
+    (tie.spec
+    Inv-loop
+    μ-loop
+    loop-holds
+    until-requires
+    sub-run-case
+    part-run-case-start
+    part-run-case-end
+    run-case-requires
+    same-length
+    returns
+    add-at
+    loop-less
+    loop-again
+    same-length-2
+    returns-2)

@@ -1,0 +1,33 @@
+// Runs the cases of standard input and prints a line for each. A case is a line `NAME KIND ARGS`, its fields parted by single
+// spaces; an empty line and one that starts with # print nothing; a line that is not understood prints `NAME ?`.
+//   NAME read DATA           prints NAME NUMBER POSITION
+//   NAME lookup TAG DATA     prints NAME NUMBER POSITION yes|no LENGTH HEX, without HEX where LENGTH is 0
+mod bytes;
+mod kinds;
+mod print;
+mod words;
+
+// Runs each line of the text, with `room` for a case's bytes.
+fn run(text: &[u8], room: &mut [u8]) {
+    let mut at = 0;
+    while at < text.len() {
+        let end = words::until(text, b'\n', at);
+        kinds::run_case(&text[at..end], room);
+        if end == text.len() {
+            return;
+        }
+        at = end + 1;
+    }
+}
+
+// Reads the text of the cases and runs it, with room for a data set a little over the size.
+fn run_input(input: &mut [u8; 262144], room: &mut [u8; 1048640]) {
+    let n = io::read_full(libc::STDIN_FILENO, input);
+    run(words::first(input, n), room);
+}
+
+fn main() {
+    let mut input = [0u8; 262144];
+    let mut room = [0u8; 1048640];
+    run_input(&mut input, &mut room);
+}
