@@ -1,0 +1,5 @@
+pub mod TagList
+pub mod Content
+pub mod Stream
+pub mod ListMode
+pub mod Injectivity
