@@ -6,3 +6,5 @@ pub mod Decodable
 pub mod UnknownVr
 pub mod Found
 pub mod Listed
+pub mod Acceptance
+pub mod Injectivity

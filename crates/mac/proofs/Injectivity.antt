@@ -1,0 +1,148 @@
+-- Demand 3, as specs/Injectivity.antt states it. Assumes nothing.
+use Prim.Native.Nat.{ℕ}
+use mathlib.Core.Path.{_≡_, refl, sym, ap, ap₂, _∙_}
+use mathlib.Core.Bool.{Bool, true, false}
+use mathlib.Core.List.{List, _++_}
+use mathlib.Core.Option.{Option, some}
+use lib.Dec.{eqb}
+use lib.ListN.{length, take, drop}
+use lib.Seq.{take-at}
+use borrow.Author.Tests.{eqb-true, eq-eqb}
+use Rattle.answer.specs.declared.Answer.{Answer}
+use Rattle.answer.specs.If.{if_then_else_}
+use Rattle.answer.specs.Answer.{accepted}
+use Rattle.dataset.specs.Reading.{dataSet, answerOf, WellFormed}
+use Rattle.dataset.proofs.Guarantees.{DataSetIs, data-set-read}
+use Rattle.digest.specs.Message.{sha256, digestOf}
+use Rattle.mac.specs.TagList.{tagsIn}
+use Rattle.mac.specs.Content.{SignedElements}
+use Rattle.mac.specs.ListMode.{Call, tree, contentOf, stream, answer, outputAfter, compared, verdictOf}
+use Rattle.mac.specs.declared.verdict.Verdict.{Verdict}
+use Rattle.mac.specs.declared.verdict.Verdict.the-variants as verdict
+use Rattle.mac.specs.Injectivity.{Bytes, Accepted, signedInFragments, listedHoldUN, on, FirstHalf, SameResult, SecondHalf, Run, written, FirstHalfOfCalls, SecondHalfOfCalls}
+use Rattle.mac.proofs.Encoding.{encodeElements}
+use Rattle.mac.proofs.Decoding.{ElementsDecodable, injective}
+use Rattle.mac.proofs.Decodable.{Sound}
+use Rattle.mac.proofs.Listed.{Signs, signs, listed-encoded, content-decodable, same-tags}
+use Rattle.mac.proofs.Acceptance.{ReadTo, read-to, Accepts, accepts, answer-accepts, answer-accepted}
+
+-- ---- the stream of a call is the encoding of its signed content
+module _ (c : Call) (b : Bytes (c .set)) (r : ReadTo (c .set)) (row : SignedElements) (is : contentOf c ≡ some row) where
+  placed : DataSetIs (c .set) (tree (c .set)) (r .next)
+  placed = data-set-read (c .set) (tree (c .set)) (r .next) (r .is)
+
+  sound : Sound (c .set)
+  sound = record { bytes = b; small = placed .small }
+
+  stream-encoded : stream c ≡ encodeElements row
+  unfolding stream contentOf
+  stream-encoded = listed-encoded (c .set) sound (tree (c .set)) _ 0 0 (r .next) (placed .tree) (tagsIn (c .list)) row is
+
+  call-decodable : signedInFragments (contentOf c) ≡ false → ElementsDecodable row
+  unfolding contentOf
+  call-decodable n = content-decodable (c .set) sound (tree (c .set)) _ 0 0 (r .next) (placed .tree) (tagsIn (c .list)) row is (sym (ap signedInFragments is) ∙ n)
+
+-- an accepted call has a signed content
+signed-call : (c : Call) → Accepts c → Signs (tagsIn (c .list)) (tree (c .set)) (c .set)
+signed-call c a = signs (tagsIn (c .list)) 0 (tree (c .set)) (c .set) (a .tags)
+
+number-0 : (c : Call) → Accepted c → answer c .number ≡ 0
+number-0 c h = eqb-true (answer c .number) 0 h
+
+-- ---- over the definitions
+pub first-half : FirstHalf
+unfolding contentOf
+first-half c k b b′ h h′ n n′ = (there, here)
+  where
+    a : Accepts c
+    a = accepts c (number-0 c h)
+
+    a′ : Accepts k
+    a′ = accepts k (number-0 k h′)
+
+    s : Signs (tagsIn (c .list)) (tree (c .set)) (c .set)
+    s = signed-call c a
+
+    s′ : Signs (tagsIn (k .list)) (tree (k .set)) (k .set)
+    s′ = signed-call k a′
+
+    e : stream c ≡ encodeElements (s .row)
+    e = stream-encoded c b (a .read) (s .row) (s .is)
+
+    e′ : stream k ≡ encodeElements (s′ .row)
+    e′ = stream-encoded k b′ (a′ .read) (s′ .row) (s′ .is)
+
+    there : stream c ≡ stream k → contentOf c ≡ contentOf k
+    there q =
+        s .is
+        ∙ ap some
+        (injective (s .row) (s′ .row) (call-decodable c b (a .read) (s .row) (s .is) n) (call-decodable k b′ (a′ .read) (s′ .row) (s′ .is) n′) (sym e ∙ q ∙ e′))
+        ∙ sym (s′ .is)
+
+    here : contentOf c ≡ contentOf k → stream c ≡ stream k
+    here q = let r : s .row ≡ s′ .row = cc (s .is, s′ .is, q) in e ∙ ap encodeElements r ∙ sym e′
+
+same-verdict : (c : Call) (d : List ℕ) → answer (on c d) ≡ answer c → stream (on c d) ≡ stream c → verdictOf (on c d) ≡ verdictOf c
+unfolding verdictOf
+same-verdict c d a s =
+    ap₂ (λ (x : Answer) (y : List ℕ). if eqb (x .number) 0 then compared (c .expected) (digestOf sha256 y) else verdict.Neither) a s
+
+pub second-half : SecondHalf
+unfolding contentOf
+second-half c d b b′ h w same none = record { answers = answers; verdict = same-verdict c d answers streams; streams = streams }
+  where
+    k : Call
+    k = on c d
+
+    a : Accepts c
+    a = accepts c (number-0 c h)
+
+    s : Signs (tagsIn (c .list)) (tree (c .set)) (c .set)
+    s = signed-call c a
+
+    r : ReadTo d
+    r = read-to d (ap (λ (x : Answer). x .number) w)
+
+    streams : stream k ≡ stream c
+    streams = stream-encoded k b′ r (s .row) (same ∙ s .is) ∙ sym (stream-encoded c b (a .read) (s .row) (s .is))
+
+    a′ : Accepts k
+    a′ = record {
+      list = a .list;
+      read = r;
+      tags = same-tags (tagsIn (c .list)) 0 (tree (c .set)) (tree d) (c .set) d (s .row) (a .tags) (s .is) (same ∙ s .is) none;
+      digest = a .digest;
+      room = rw streams (a .room);
+    }
+
+    answers : answer k ≡ answer c
+    answers = answer-accepts k a′ ∙ ap (λ (x : List ℕ). accepted (length x)) streams ∙ sym (answer-accepts c a)
+
+-- ---- of the calls themselves
+run-accepted : (c : Call) (out after : List ℕ) (r : Answer) → Run c out r after → r .number ≡ 0 → Accepted c
+run-accepted c out after r u h = eq-eqb (answer c .number) 0 (ap (λ (x : Answer). x .number) (sym (u .answers)) ∙ h)
+
+-- what an accepted call has written is its stream
+written-stream : (c : Call) (out after : List ℕ) (r : Answer) → Run c out r after → Accepted c → written r after ≡ stream c
+unfolding outputAfter if_then_else_
+written-stream c out after r u h =
+    let l : r .length ≡ length (stream c) = ap (λ (x : Answer). x .length) (u .answers ∙ answer-accepted c h) in
+    let o : after ≡ stream c ++ drop (length (stream c)) out = u .output ∙ rw h in
+    ap₂ (λ (n : ℕ) (x : List ℕ). take n x) l o ∙ take-at (stream c) (drop (length (stream c)) out) (length (stream c)) refl
+
+pub first-half-of-calls : FirstHalfOfCalls
+first-half-of-calls c k out out′ after after′ r r′ u u′ b b′ h h′ n n′ =
+    let a = run-accepted c out after r u h in
+    let a′ = run-accepted k out′ after′ r′ u′ h′ in
+    let w = written-stream c out after r u a in
+    let w′ = written-stream k out′ after′ r′ u′ a′ in
+    let f = first-half c k b b′ a a′ n n′ in
+    (λ q. f .0 (sym w ∙ q ∙ w′), λ q. w ∙ f .1 q ∙ sym w′)
+
+pub second-half-of-calls : SecondHalfOfCalls
+second-half-of-calls c s out out′ after after′ r r′ u u′ b b′ h w same none =
+    let a = run-accepted c out after r u h in
+    let f = second-half c s b b′ a w same none in
+    let q : r′ ≡ r = u′ .answers ∙ f .answers ∙ sym (u .answers) in
+    let a′ = run-accepted (on c s) out′ after′ r′ u′ (ap (λ (x : Answer). x .number) q ∙ h) in
+    (q, written-stream (on c s) out′ after′ r′ u′ a′ ∙ f .streams ∙ sym (written-stream c out after r u a), f .verdict)
