@@ -8,3 +8,7 @@ pub mod Found
 pub mod Listed
 pub mod Acceptance
 pub mod Injectivity
+pub mod Lengths
+pub mod Numbers
+pub mod Verdicts
+pub mod Theorems

@@ -1,0 +1,45 @@
+-- The theorems that specs/Theorems.antt states. Assumes nothing.
+use Prim.Native.Nat.{ℕ, _≤_}
+use mathlib.Core.Path.{_≡_, refl}
+use mathlib.Core.List.{List}
+use native.Mathlib.Omega.{arith}
+use lib.ListN.{length}
+use Rattle.answer.proofs.Chain.{both-accepted}
+use Rattle.dataset.specs.Tree.{Elements}
+use Rattle.dataset.specs.Order.{ElementsLie}
+use Rattle.dataset.specs.Reading.{Reading, levels, dataSet}
+use Rattle.dataset.proofs.Guarantees.{data-set-read}
+use Rattle.mac.specs.TagList.{tagsIn, ascending, unbarred, listAnswer}
+use Rattle.mac.specs.Stream.{listedStream}
+use Rattle.mac.specs.ListMode.{Call, treeOf, stream, answer}
+use Rattle.mac.specs.Theorems.{NeverLonger, Never17, VerdictExact}
+use Rattle.mac.proofs.Lengths.{listed-short}
+use Rattle.mac.proofs.Numbers.{below-17}
+use Rattle.mac.proofs.Verdicts.{says}
+
+-- a list that is good ascends
+list-ascends : (list : List ℕ) → listAnswer list .number ≡ 0 → ascending 0 0 (tagsIn list) .number ≡ 0
+unfolding listAnswer
+list-ascends list h = both-accepted (ascending 0 0 (tagsIn list)) (unbarred 0 (tagsIn list)) (both-accepted _ _ h .second) .first
+
+-- a refused data set has no elements
+module _ (d tags : List ℕ) (a : ascending 0 0 tags .number ≡ 0) where
+  short-by : (r : Reading Elements) → dataSet d ≡ r → length (listedStream tags (treeOf r) d) ≤ length d
+  unfolding ElementsLie
+  short-by (Reading.fault f) e =
+      let h = listed-short d levels 0 Elements.none 0 0 tags a Elements.none 0 0 (λ t k. refl) record { order = omega arith; inside = omega arith; even = omega arith } in
+      omega arith
+  short-by (Reading.read es n) e =
+      let p = data-set-read d es n e in
+      let h = listed-short d levels n es 0 0 tags a es 0 0 (λ t k. refl) (p .tree) in
+      omega (arith, p .whole)
+
+pub never-longer : NeverLonger
+unfolding stream
+never-longer c h = short-by (c .set) (tagsIn (c .list)) (list-ascends (c .list) h) (dataSet (c .set)) refl
+
+pub never-17 : Never17
+never-17 c e = let l = below-17 c in omega arith
+
+pub verdict-exact : VerdictExact
+verdict-exact c e x = says c e x
