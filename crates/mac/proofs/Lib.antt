@@ -12,3 +12,4 @@ pub mod Lengths
 pub mod Numbers
 pub mod Verdicts
 pub mod Theorems
+pub mod Examples

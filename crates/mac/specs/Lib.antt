@@ -4,3 +4,4 @@ pub mod Stream
 pub mod ListMode
 pub mod Injectivity
 pub mod Theorems
+pub mod Examples
