@@ -1,20 +1,19 @@
 -- An accepted call: none of the refusals holds, and the answer is the stream's length. Assumes nothing.
 use Prim.Native.Nat.{ℕ}
 use mathlib.Core.Path.{_≡_, refl, sym, ap, _∙_}
-use mathlib.Core.Bool.{Bool, true, false}
+use mathlib.Core.Bool.{false}
 use mathlib.Core.List.{List}
 use native.Mathlib.Omega.{arith}
 use lib.Dec.{ltb}
 use lib.ListN.{length}
-use borrow.Author.Tests.{eqb-true, eq-eqb, le-ltb}
-use Rattle.answer.specs.declared.Answer.{Answer}
+use borrow.Author.Tests.{eqb-true, le-ltb}
 use Rattle.answer.specs.If.{if_then_else_}
-use Rattle.answer.specs.Answer.{accepted, refused, _orElse_}
+use Rattle.answer.specs.Answer.{accepted}
 use Rattle.answer.proofs.Chain.{or-else-second, both-accepted, passed}
 use Rattle.dataset.specs.Tree.{Elements}
 use Rattle.dataset.specs.Reading.{Reading, sizeLimit, dataSet, answerOf}
 use Rattle.dataset.proofs.Theorems.{faults-inside}
-use Rattle.dataset.proofs.Guarantees.{DataSetIs, data-set-read}
+use Rattle.dataset.proofs.Guarantees.{data-set-read}
 use Rattle.mac.specs.TagList.{tagsIn, listAnswer}
 use Rattle.mac.specs.ListMode.{Call, treeOf, tree, contentOf, stream, badDigest, met, tagsAnswer, answer}
 use Rattle.mac.specs.Injectivity.{Accepted}

@@ -6,7 +6,7 @@ use Rattle.dataset.specs.If as dataset
 use Rattle.dataset.specs.Bytes.{num16, num32, tagAt, vrAt, between}
 use Rattle.dataset.specs.Vr.{formOf, oneOf}
 use Rattle.dataset.specs.Header.{endsAt, closedBy, valueBy, longAt, byForm, vrOnAt, elementAt, itemBy, itemAt}
-use Rattle.dataset.specs.Reading.{byHeader, byOne, byItem, byFragment, fragmentsBy, elementsBy, itemsBy, elementsAt, dataSet}
+use Rattle.dataset.specs.Reading.{byHeader, byOne, byItem, byFragment, fragmentsBy, elementsBy, elementsAt, dataSet}
 use Rattle.dataset.specs.Lookup.{find}
 use Rattle.mac.specs.TagList.{tagsIn, barred, badSize, ascending, unbarred, listAnswer}
 use Rattle.mac.specs.Content.{fragmentBytes, signed, content}

@@ -1,9 +1,9 @@
 -- Demand 3, as specs/Injectivity.antt states it. Assumes nothing.
 use Prim.Native.Nat.{ℕ}
 use mathlib.Core.Path.{_≡_, refl, sym, ap, ap₂, _∙_}
-use mathlib.Core.Bool.{Bool, true, false}
+use mathlib.Core.Bool.{false}
 use mathlib.Core.List.{List, _++_}
-use mathlib.Core.Option.{Option, some}
+use mathlib.Core.Option.{some}
 use lib.Dec.{eqb}
 use lib.ListN.{length, take, drop}
 use lib.Seq.{take-at}
@@ -11,15 +11,13 @@ use borrow.Author.Tests.{eqb-true, eq-eqb}
 use Rattle.answer.specs.declared.Answer.{Answer}
 use Rattle.answer.specs.If.{if_then_else_}
 use Rattle.answer.specs.Answer.{accepted}
-use Rattle.dataset.specs.Reading.{dataSet, answerOf, WellFormed}
 use Rattle.dataset.proofs.Guarantees.{DataSetIs, data-set-read}
 use Rattle.digest.specs.Message.{sha256, digestOf}
 use Rattle.mac.specs.TagList.{tagsIn}
 use Rattle.mac.specs.Content.{SignedElements}
 use Rattle.mac.specs.ListMode.{Call, tree, contentOf, stream, answer, outputAfter, compared, verdictOf}
-use Rattle.mac.specs.declared.verdict.Verdict.{Verdict}
 use Rattle.mac.specs.declared.verdict.Verdict.the-variants as verdict
-use Rattle.mac.specs.Injectivity.{Bytes, Accepted, signedInFragments, listedHoldUN, on, FirstHalf, SameResult, SecondHalf, Run, written, FirstHalfOfCalls, SecondHalfOfCalls}
+use Rattle.mac.specs.Injectivity.{Bytes, Accepted, signedInFragments, on, FirstHalf, SecondHalf, Run, written, FirstHalfOfCalls, SecondHalfOfCalls}
 use Rattle.mac.proofs.Encoding.{encodeElements}
 use Rattle.mac.proofs.Decoding.{ElementsDecodable, injective}
 use Rattle.mac.proofs.Decodable.{Sound}

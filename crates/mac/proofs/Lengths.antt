@@ -1,6 +1,6 @@
 -- A stream is never longer than the part of the data set that it is the stream of. Assumes nothing.
-use Prim.Native.Nat.{ℕ, _+_, _-_, _≤_, _<_}
-use mathlib.Core.Path.{_≡_, refl, sym, ap, _∙_, subst}
+use Prim.Native.Nat.{ℕ, _+_, _-_, _≤_}
+use mathlib.Core.Path.{_≡_, refl, _∙_}
 use mathlib.Core.Bool.{Bool, true, false}
 use mathlib.Core.List.{List, [], _∷_, _++_}
 use mathlib.Core.Option.{Option, some}
@@ -10,7 +10,7 @@ use lib.Dec.{ltb}
 use lib.ListN.{length, length-append}
 use borrow.Author.Tests.{ltb-false}
 use Rattle.answer.specs.If.{if_then_else_}
-use Rattle.answer.specs.Answer.{accepted, refused}
+use Rattle.answer.specs.Answer.{refused}
 use Rattle.dataset.specs.Bytes.{between}
 use Rattle.dataset.specs.Tree.{Span, Element, Elements, Items, tagOf}
 use Rattle.dataset.specs.Order.{PartsLie, ElementLies, ElementsLie, ItemsLie}
@@ -19,7 +19,7 @@ use Rattle.dataset.proofs.Order.{parts-ends, elements-end}
 use Rattle.mac.specs.TagList.{barred, ascending}
 use Rattle.mac.specs.Stream.{itemMark, fragmentsStream, unlessBarred, streamOf, elementsStream, itemsStream, foundStream, listedStream}
 use Rattle.mac.proofs.Slices.{length-between}
-use Rattle.mac.proofs.Found.{FoundAt, found-at}
+use Rattle.mac.proofs.Found.{found-at}
 
 -- ---- lengths of a fragment, an item and a sequence
 pub fragment-length : (d : List ℕ) (s : Span) (x : List ℕ) → s .start ≤ s .end → s .end ≤ length d

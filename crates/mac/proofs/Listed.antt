@@ -1,6 +1,6 @@
 -- The listed elements: what the tag by tag answer 13, 14, 15 leaves, their stream and their signed content. Assumes nothing.
-use Prim.Native.Nat.{ℕ, _+_, _≤_}
-use mathlib.Core.Path.{_≡_, refl, sym, ap, ap₂, _∙_, subst}
+use Prim.Native.Nat.{ℕ, _+_}
+use mathlib.Core.Path.{_≡_, refl, ap, ap₂, _∙_, subst}
 use mathlib.Core.Bool.{Bool, true, false, true≢false}
 use mathlib.Core.List.{List, [], _∷_, _++_}
 use mathlib.Core.Option.{Option, some}
@@ -8,7 +8,7 @@ use mathlib.Core.Option as Opt
 use native.Mathlib.Omega.{arith}
 use Rattle.answer.specs.declared.Answer.{Answer}
 use Rattle.answer.specs.If.{if_then_else_}
-use Rattle.answer.specs.Answer.{accepted, refused, _orElse_}
+use Rattle.answer.specs.Answer.{accepted, refused}
 use Rattle.answer.proofs.Chain.{or-else-second, both-accepted}
 use Rattle.dataset.specs.Tree.{Element, Elements}
 use Rattle.dataset.specs.Order.{ElementsLie}

@@ -11,7 +11,7 @@ use Rattle.dataset.specs.Reading.{Reading, levels, dataSet}
 use Rattle.dataset.proofs.Guarantees.{data-set-read}
 use Rattle.mac.specs.TagList.{tagsIn, ascending, unbarred, listAnswer}
 use Rattle.mac.specs.Stream.{listedStream}
-use Rattle.mac.specs.ListMode.{Call, treeOf, stream, answer}
+use Rattle.mac.specs.ListMode.{treeOf, stream}
 use Rattle.mac.specs.Theorems.{NeverLonger, Never17, VerdictExact}
 use Rattle.mac.proofs.Lengths.{listed-short}
 use Rattle.mac.proofs.Numbers.{below-17}
