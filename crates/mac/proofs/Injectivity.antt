@@ -1,12 +1,11 @@
 -- Demand 3, as specs/Injectivity.antt states it. Assumes nothing.
 use Prim.Native.Nat.{ℕ}
-use mathlib.Core.Path.{_≡_, refl, sym, ap, ap₂, _∙_}
+use mathlib.Core.Path.{_≡_, sym, ap, ap₂, _∙_}
 use mathlib.Core.Bool.{false}
-use mathlib.Core.List.{List, _++_}
+use mathlib.Core.List.{List}
 use mathlib.Core.Option.{some}
 use lib.Dec.{eqb}
-use lib.ListN.{length, take, drop}
-use lib.Seq.{take-at}
+use lib.ListN.{length}
 use borrow.Author.Tests.{eqb-true, eq-eqb}
 use Rattle.answer.specs.declared.Answer.{Answer}
 use Rattle.answer.specs.If.{if_then_else_}
@@ -15,14 +14,15 @@ use Rattle.dataset.proofs.Guarantees.{DataSetIs, data-set-read}
 use Rattle.digest.specs.Message.{sha256, digestOf}
 use Rattle.mac.specs.TagList.{tagsIn}
 use Rattle.mac.specs.Content.{SignedElements}
-use Rattle.mac.specs.ListMode.{Call, tree, contentOf, stream, answer, outputAfter, compared, verdictOf}
+use Rattle.mac.specs.ListMode.{Call, tree, contentOf, stream, answer, compared, verdictOf}
 use Rattle.mac.specs.declared.verdict.Verdict.the-variants as verdict
 use Rattle.mac.specs.Injectivity.{Bytes, Accepted, signedInFragments, on, FirstHalf, SecondHalf, Run, written, FirstHalfOfCalls, SecondHalfOfCalls}
 use Rattle.mac.proofs.Encoding.{encodeElements}
 use Rattle.mac.proofs.Decoding.{ElementsDecodable, injective}
 use Rattle.mac.proofs.Decodable.{Sound}
 use Rattle.mac.proofs.Listed.{Signs, signs, listed-encoded, content-decodable, same-tags}
-use Rattle.mac.proofs.Acceptance.{ReadTo, read-to, Accepts, accepts, answer-accepts, answer-accepted}
+use Rattle.mac.proofs.Outputs.{output-stream}
+use Rattle.mac.proofs.Acceptance.{ReadTo, read-to, Accepts, accepts, answer-accepts}
 
 -- ---- the stream of a call is the encoding of its signed content
 module _ (c : Call) (b : Bytes (c .set)) (r : ReadTo (c .set)) (row : SignedElements) (is : contentOf c ≡ some row) where
@@ -122,11 +122,7 @@ run-accepted c out after r u h = eq-eqb (answer c .number) 0 (ap (λ (x : Answer
 
 -- what an accepted call has written is its stream
 written-stream : (c : Call) (out after : List ℕ) (r : Answer) → Run c out r after → Accepted c → written r after ≡ stream c
-unfolding outputAfter if_then_else_
-written-stream c out after r u h =
-    let l : r .length ≡ length (stream c) = ap (λ (x : Answer). x .length) (u .answers ∙ answer-accepted c h) in
-    let o : after ≡ stream c ++ drop (length (stream c)) out = u .output ∙ rw h in
-    ap₂ (λ (n : ℕ) (x : List ℕ). take n x) l o ∙ take-at (stream c) (drop (length (stream c)) out) (length (stream c)) refl
+written-stream c out after r u h = ap₂ written (u .answers) (u .output) ∙ output-stream c out h
 
 pub first-half-of-calls : FirstHalfOfCalls
 first-half-of-calls c k out out′ after after′ r r′ u u′ b b′ h h′ n n′ =

@@ -7,9 +7,10 @@ pub mod UnknownVr
 pub mod Found
 pub mod Listed
 pub mod Acceptance
+pub mod Outputs
 pub mod Injectivity
 pub mod Lengths
-pub mod Numbers
+pub mod Answers
 pub mod Verdicts
 pub mod Theorems
 pub mod Examples

@@ -1,9 +1,11 @@
 -- The theorems that specs/Theorems.antt states. Assumes nothing.
 use Prim.Native.Nat.{ℕ, _≤_}
-use mathlib.Core.Path.{_≡_, refl}
+use mathlib.Core.Path.{_≡_, refl, sym, _∙_}
+use mathlib.Core.Bool.{true≢false}
 use mathlib.Core.List.{List}
 use native.Mathlib.Omega.{arith}
 use lib.ListN.{length}
+use borrow.Author.Tests.{eq-eqb}
 use Rattle.answer.proofs.Chain.{both-accepted}
 use Rattle.dataset.specs.Tree.{Elements}
 use Rattle.dataset.specs.Order.{ElementsLie}
@@ -11,10 +13,12 @@ use Rattle.dataset.specs.Reading.{Reading, levels, dataSet}
 use Rattle.dataset.proofs.Guarantees.{data-set-read}
 use Rattle.mac.specs.TagList.{tagsIn, ascending, unbarred, listAnswer}
 use Rattle.mac.specs.Stream.{listedStream}
-use Rattle.mac.specs.ListMode.{treeOf, stream}
-use Rattle.mac.specs.Theorems.{NeverLonger, Never17, VerdictExact}
+use Rattle.mac.specs.ListMode.{treeOf, stream, answer}
+use Rattle.mac.specs.Theorems.{NeverLonger, Never17, AcceptedOutput, RefusedOutput, VerdictExact}
 use Rattle.mac.proofs.Lengths.{listed-short}
-use Rattle.mac.proofs.Numbers.{below-17}
+use Rattle.mac.proofs.Answers.{answer-regular}
+use Rattle.mac.proofs.Acceptance.{answer-accepted}
+use Rattle.mac.proofs.Outputs.{output-stream, output-rest, output-room, output-refused}
 use Rattle.mac.proofs.Verdicts.{says}
 
 -- a list that is good ascends
@@ -39,7 +43,21 @@ unfolding stream
 never-longer c h = short-by (c .set) (tagsIn (c .list)) (list-ascends (c .list) h) (dataSet (c .set)) refl
 
 pub never-17 : Never17
-never-17 c e = let l = below-17 c in omega arith
+never-17 c e = let l = answer-regular c .below in omega arith
+
+pub accepted-output : AcceptedOutput
+accepted-output c out h r = record {
+  answers = answer-accepted c h;
+  first = output-stream c out h;
+  later = output-rest c out h;
+  room = output-room c out h r;
+}
+
+pub refused-output : RefusedOutput
+refused-output c out h = record {
+  nothing = answer-regular c .nothing (λ n. true≢false (sym (eq-eqb (answer c .number) 0 n) ∙ h));
+  untouched = output-refused c out h;
+}
 
 pub verdict-exact : VerdictExact
 verdict-exact c e x = says c e x

@@ -6,10 +6,11 @@ use mathlib.Core.Logic.{_↔_, _≢_}
 use mathlib.Core.Bool.{false}
 use mathlib.Core.List.{List}
 use mathlib.Core.Option.{some}
-use lib.ListN.{length}
+use lib.ListN.{length, take, drop}
+use Rattle.answer.specs.Answer.{accepted}
 use Rattle.digest.specs.Message.{sha256, digestOf}
 use Rattle.mac.specs.TagList.{listAnswer}
-use Rattle.mac.specs.ListMode.{Call, stream, answer, isAccepted, verdictOf}
+use Rattle.mac.specs.ListMode.{Call, stream, answer, isAccepted, outputAfter, verdictOf}
 use Rattle.mac.specs.Injectivity.{Accepted}
 use Rattle.mac.specs.declared.verdict.Verdict.the-variants as verdict
 
@@ -20,6 +21,24 @@ NeverLonger = (c : Call) → listAnswer (c .list) .number ≡ 0 → length (stre
 -- 17 cannot come: a UN that would be written inside a listed sequence makes 15 come before.
 abbrev pub Never17 : Type 0
 Never17 = (c : Call) → answer c .number ≢ 17
+
+-- "For 0 the position is 0 and the first length bytes of the output are the stream; later bytes are untouched." The output keeps its length.
+pub record StreamIn (c : Call) (out : List ℕ) : Type 0 where
+  pub answers : answer c ≡ accepted (length (stream c))
+  pub first : take (answer c .length) (outputAfter c out) ≡ stream c
+  pub later : drop (answer c .length) (outputAfter c out) ≡ drop (answer c .length) out
+  pub room : length (outputAfter c out) ≡ length out
+
+abbrev pub AcceptedOutput : Type 0
+AcceptedOutput = (c : Call) (out : List ℕ) → Accepted c → c .room ≡ length out → StreamIn c out
+
+-- "A refusal has length 0 and touches no output byte."
+pub record NothingIn (c : Call) (out : List ℕ) : Type 0 where
+  pub nothing : answer c .length ≡ 0
+  pub untouched : outputAfter c out ≡ out
+
+abbrev pub RefusedOutput : Type 0
+RefusedOutput = (c : Call) (out : List ℕ) → isAccepted c ≡ false → NothingIn c out
 
 -- A check with the expected digest e says "same" exactly when it is accepted and the digest of its stream equals e, "differs" exactly when it is
 -- accepted and the digest is another, and neither exactly when it is refused.
