@@ -20,21 +20,21 @@ use Rattle.mac.specs.Injectivity.{Accepted}
 use Rattle.mac.proofs.Listed.{never-met}
 
 -- a data set that the reading does not refuse
-pub record ReadTo (d : List ℕ) : Type 0 where
+pub record IsRead (d : List ℕ) : Type 0 where
   pub next : ℕ
   pub is : dataSet d ≡ Reading.read (tree d) next
 
-pub read-to : (d : List ℕ) → answerOf (dataSet d) .number ≡ 0 → ReadTo d
-read-to d = go (dataSet d) refl
+pub is-read : (d : List ℕ) → answerOf (dataSet d) .number ≡ 0 → IsRead d
+is-read d = go (dataSet d) refl
   where
-    go : (r : Reading Elements) → dataSet d ≡ r → answerOf r .number ≡ 0 → ReadTo d
+    go : (r : Reading Elements) → dataSet d ≡ r → answerOf r .number ≡ 0 → IsRead d
     go (Reading.fault f) e h = let l = faults-inside d f e .least in absurd (omega arith)
     go (Reading.read es n) e h = record { next = n; is = e ∙ ap (λ (x : Elements). Reading.read x n) (sym (ap treeOf e)) }
 
 -- none of the refusals
 pub record Accepts (c : Call) : Type 0 where
   pub list : listAnswer (c .list) .number ≡ 0
-  pub read : ReadTo (c .set)
+  pub read : IsRead (c .set)
   pub tags : tagsAnswer 0 (tagsIn (c .list)) (tree (c .set)) .number ≡ 0
   pub digest : badDigest (c .expected) ≡ false
   pub room : ltb (c .room) (length (stream c)) ≡ false
@@ -50,7 +50,7 @@ accepts c h =
     let room = both-accepted _ _ (digest .second) in
     record {
       list = list .first;
-      read = read-to (c .set) (reading .first);
+      read = is-read (c .set) (reading .first);
       tags = tags .first;
       digest = passed (badDigest (c .expected)) 9 0 (λ z. omega arith) (digest .first);
       room = passed (ltb (c .room) (length (stream c))) 16 0 (λ z. omega arith) (room .first);

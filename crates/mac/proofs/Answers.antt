@@ -72,7 +72,7 @@ unfolding tagsAnswer
 tags-regular index [] es = accepted-regular 0
 tags-regular index (tag ∷ tags) es = or-else-regular _ _ (element-regular index (find tag es)) λ h. tags-regular (index + 1) tags es
 
--- 17 and what is after it: the test is false where the tags are good
+-- 17 and what is after it: the test is false where none of 13, 14 and 15 holds
 last-regular : (c : Call) (b : Answer) → tagsAnswer 0 (tagsIn (c .list)) (tree (c .set)) .number ≡ 0 → Regular b
     → Regular ((if met (contentOf c) then refused 17 0 else accepted 0) orElse b)
 unfolding contentOf if_then_else_

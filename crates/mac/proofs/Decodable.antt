@@ -18,7 +18,7 @@ use Rattle.mac.proofs.Encoding.{isShort, SizedAs, sized-as}
 use Rattle.mac.proofs.Decoding.{TagFits, LengthFits, Decodable, ElementsDecodable, ItemsDecodable}
 
 -- bytes, and no more than a data set may have
-pub record Sound (d : List ℕ) : Type 0 where
+pub record WithinSize (d : List ℕ) : Type 0 where
   pub bytes : Bytes d
   pub small : length d ≤ sizeLimit
 
@@ -43,7 +43,7 @@ unless-barred-decodable false e rest p q h = (p (first-false (inFragments e) (so
 mutual
   unfolding signed inFragments ElementLies Decodable
 
-  pub element-decodable : (e : Element) (d : List ℕ) → Sound d → (left at next : ℕ) → ElementLies e d left at next → inFragments (signed e d) ≡ false → Decodable (signed e d)
+  pub element-decodable : (e : Element) (d : List ℕ) → WithinSize d → (left at next : ℕ) → ElementLies e d left at next → inFragments (signed e d) ≡ false → Decodable (signed e d)
   element-decodable (Element.value p tag vr span) d b left at next r h =
       let v = r .1 in
       let n : length (between d (span .start) (span .end)) ≡ span .end - span .start = length-between d (span .start) (span .end) (v .order) (v .inside) in
@@ -57,14 +57,14 @@ mutual
       (tag-fits d (b .bytes) at tag (r .1 .tagged), items-decodable items d b left (span .start) next (r .4) h)
   element-decodable (Element.fragments p tag span parts) d b left at next r h = absurd (true≢false h)
 
-  elements-decodable : (es : Elements) (d : List ℕ) → Sound d → (left floor at next : ℕ) → ElementsLie es d left floor at next
+  elements-decodable : (es : Elements) (d : List ℕ) → WithinSize d → (left floor at next : ℕ) → ElementsLie es d left floor at next
       → someInFragments (signedElements es d) ≡ false → ElementsDecodable (signedElements es d)
   elements-decodable Elements.none d b left floor at next r h = tt
   elements-decodable (Elements.and e es) d b left floor at next r h =
       unless-barred-decodable (barred (tagOf e)) (signed e d) (signedElements es d) (λ k. element-decodable e d b left at (r .0) (r .2) k)
       (λ k. elements-decodable es d b left (tagOf e + 1) (r .0) next (r .3) k) h
 
-  items-decodable : (is : Items) (d : List ℕ) → Sound d → (left at next : ℕ) → ItemsLie is d left at next
+  items-decodable : (is : Items) (d : List ℕ) → WithinSize d → (left at next : ℕ) → ItemsLie is d left at next
       → itemsInFragments (signedItems is d) ≡ false → ItemsDecodable (signedItems is d)
   items-decodable Items.last d b left at next r h = tt
   items-decodable (Items.item p es is) d b left at next r h = (

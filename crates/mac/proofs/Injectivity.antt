@@ -19,17 +19,17 @@ use Rattle.mac.specs.declared.verdict.Verdict.the-variants as verdict
 use Rattle.mac.specs.Injectivity.{Bytes, Accepted, signedInFragments, on, FirstHalf, SecondHalf, Run, written, FirstHalfOfCalls, SecondHalfOfCalls}
 use Rattle.mac.proofs.Encoding.{encodeElements}
 use Rattle.mac.proofs.Decoding.{ElementsDecodable, injective}
-use Rattle.mac.proofs.Decodable.{Sound}
-use Rattle.mac.proofs.Listed.{Signs, signs, listed-encoded, content-decodable, same-tags}
+use Rattle.mac.proofs.Decodable.{WithinSize}
+use Rattle.mac.proofs.Listed.{HasContent, has-content, listed-encoded, content-decodable, same-tags}
 use Rattle.mac.proofs.Outputs.{output-stream}
-use Rattle.mac.proofs.Acceptance.{ReadTo, read-to, Accepts, accepts, answer-accepts}
+use Rattle.mac.proofs.Acceptance.{IsRead, is-read, Accepts, accepts, answer-accepts}
 
 -- ---- the stream of a call is the encoding of its signed content
-module _ (c : Call) (b : Bytes (c .set)) (r : ReadTo (c .set)) (row : SignedElements) (is : contentOf c ≡ some row) where
+module _ (c : Call) (b : Bytes (c .set)) (r : IsRead (c .set)) (row : SignedElements) (is : contentOf c ≡ some row) where
   placed : DataSetIs (c .set) (tree (c .set)) (r .next)
   placed = data-set-read (c .set) (tree (c .set)) (r .next) (r .is)
 
-  sound : Sound (c .set)
+  sound : WithinSize (c .set)
   sound = record { bytes = b; small = placed .small }
 
   stream-encoded : stream c ≡ encodeElements row
@@ -41,8 +41,8 @@ module _ (c : Call) (b : Bytes (c .set)) (r : ReadTo (c .set)) (row : SignedElem
   call-decodable n = content-decodable (c .set) sound (tree (c .set)) _ 0 0 (r .next) (placed .tree) (tagsIn (c .list)) row is (sym (ap signedInFragments is) ∙ n)
 
 -- an accepted call has a signed content
-signed-call : (c : Call) → Accepts c → Signs (tagsIn (c .list)) (tree (c .set)) (c .set)
-signed-call c a = signs (tagsIn (c .list)) 0 (tree (c .set)) (c .set) (a .tags)
+call-has-content : (c : Call) → Accepts c → HasContent (tagsIn (c .list)) (tree (c .set)) (c .set)
+call-has-content c a = has-content (tagsIn (c .list)) 0 (tree (c .set)) (c .set) (a .tags)
 
 number-0 : (c : Call) → Accepted c → answer c .number ≡ 0
 number-0 c h = eqb-true (answer c .number) 0 h
@@ -58,11 +58,11 @@ first-half c k b b′ h h′ n n′ = (there, here)
     a′ : Accepts k
     a′ = accepts k (number-0 k h′)
 
-    s : Signs (tagsIn (c .list)) (tree (c .set)) (c .set)
-    s = signed-call c a
+    s : HasContent (tagsIn (c .list)) (tree (c .set)) (c .set)
+    s = call-has-content c a
 
-    s′ : Signs (tagsIn (k .list)) (tree (k .set)) (k .set)
-    s′ = signed-call k a′
+    s′ : HasContent (tagsIn (k .list)) (tree (k .set)) (k .set)
+    s′ = call-has-content k a′
 
     e : stream c ≡ encodeElements (s .row)
     e = stream-encoded c b (a .read) (s .row) (s .is)
@@ -95,11 +95,11 @@ second-half c d b b′ h w same none = record { answers = answers; verdict = sam
     a : Accepts c
     a = accepts c (number-0 c h)
 
-    s : Signs (tagsIn (c .list)) (tree (c .set)) (c .set)
-    s = signed-call c a
+    s : HasContent (tagsIn (c .list)) (tree (c .set)) (c .set)
+    s = call-has-content c a
 
-    r : ReadTo d
-    r = read-to d (ap (λ (x : Answer). x .number) w)
+    r : IsRead d
+    r = is-read d (ap (λ (x : Answer). x .number) w)
 
     streams : stream k ≡ stream c
     streams = stream-encoded k b′ r (s .row) (same ∙ s .is) ∙ sym (stream-encoded c b (a .read) (s .row) (s .is))

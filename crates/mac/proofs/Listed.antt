@@ -20,55 +20,55 @@ use Rattle.mac.specs.Injectivity.{foundHoldsUN, listedHoldUN}
 use Rattle.mac.proofs.Either.{first-false, second-false}
 use Rattle.mac.proofs.Encoding.{encodeElements, element-encoded}
 use Rattle.mac.proofs.Decoding.{ElementsDecodable}
-use Rattle.mac.proofs.Decodable.{Sound, element-decodable}
+use Rattle.mac.proofs.Decodable.{WithinSize, element-decodable}
 use Rattle.mac.proofs.UnknownVr.{none-met, same-vr}
 use Rattle.mac.proofs.Found.{found-at}
 
 -- ---- none of 13, 14 and 15
-pub record Good (o : Option Element) : Type 0 where
+pub record Unrefused (o : Option Element) : Type 0 where
   pub element : Element
   pub is : o ≡ some element
   pub known : isUN element ≡ false
   pub clean : holdsUN element ≡ false
 
-element-good : (i : ℕ) (o : Option Element) → elementAnswer i o .number ≡ 0 → Good o
+element-unrefused : (i : ℕ) (o : Option Element) → elementAnswer i o .number ≡ 0 → Unrefused o
 unfolding elementAnswer if_then_else_
-element-good i Opt.none h = absurd (omega arith)
-element-good i (some e) h = go (isUN e) refl (holdsUN e) refl h
+element-unrefused i Opt.none h = absurd (omega arith)
+element-unrefused i (some e) h = go (isUN e) refl (holdsUN e) refl h
   where
-    go : (a : Bool) → isUN e ≡ a → (b : Bool) → holdsUN e ≡ b → (if a then refused 14 i else if b then refused 15 i else accepted 0) .number ≡ 0 → Good (some e)
+    go : (a : Bool) → isUN e ≡ a → (b : Bool) → holdsUN e ≡ b → (if a then refused 14 i else if b then refused 15 i else accepted 0) .number ≡ 0 → Unrefused (some e)
     go true p b q z = absurd (omega arith)
     go false p true q z = absurd (omega arith)
     go false p false q z = record { element = e; is = refl; known = p; clean = q }
 
-good-element : (i : ℕ) (o : Option Element) → Good o → elementAnswer i o .number ≡ 0
+unrefused-element : (i : ℕ) (o : Option Element) → Unrefused o → elementAnswer i o .number ≡ 0
 unfolding elementAnswer if_then_else_
-good-element i o g = rw (g .is, g .known, g .clean)
+unrefused-element i o g = rw (g .is, g .known, g .clean)
 
 -- the first listed tag, and the others
-pub record GoodTags (i tag : ℕ) (tags : List ℕ) (es : Elements) : Type 0 where
-  pub first : Good (find tag es)
+pub record TagsUnrefused (i tag : ℕ) (tags : List ℕ) (es : Elements) : Type 0 where
+  pub first : Unrefused (find tag es)
   pub rest : tagsAnswer (i + 1) tags es .number ≡ 0
 
-pub good-tags : (i tag : ℕ) (tags : List ℕ) (es : Elements) → tagsAnswer i (tag ∷ tags) es .number ≡ 0 → GoodTags i tag tags es
+pub tags-unrefused : (i tag : ℕ) (tags : List ℕ) (es : Elements) → tagsAnswer i (tag ∷ tags) es .number ≡ 0 → TagsUnrefused i tag tags es
 unfolding tagsAnswer
-good-tags i tag tags es h =
+tags-unrefused i tag tags es h =
     let p = both-accepted (elementAnswer i (find tag es)) (tagsAnswer (i + 1) tags es) h in
-    record { first = element-good i (find tag es) (p .first); rest = p .second }
+    record { first = element-unrefused i (find tag es) (p .first); rest = p .second }
 
 -- ---- the signed content
-pub record Signs (tags : List ℕ) (es : Elements) (d : List ℕ) : Type 0 where
+pub record HasContent (tags : List ℕ) (es : Elements) (d : List ℕ) : Type 0 where
   pub row : SignedElements
   pub is : content tags es d ≡ some row
   pub unmet : metInSequence row ≡ false
 
-pub signs : (tags : List ℕ) (i : ℕ) (es : Elements) (d : List ℕ) → tagsAnswer i tags es .number ≡ 0 → Signs tags es d
+pub has-content : (tags : List ℕ) (i : ℕ) (es : Elements) (d : List ℕ) → tagsAnswer i tags es .number ≡ 0 → HasContent tags es d
 unfolding content metInSequence
-signs [] i es d h = record { row = SignedElements.none; is = refl; unmet = refl }
-signs (tag ∷ tags) i es d h =
-    let g = good-tags i tag tags es h in
+has-content [] i es d h = record { row = SignedElements.none; is = refl; unmet = refl }
+has-content (tag ∷ tags) i es d h =
+    let g = tags-unrefused i tag tags es h in
     let f = g .first in
-    let r = signs tags (i + 1) es d (g .rest) in
+    let r = has-content tags (i + 1) es d (g .rest) in
     record {
       row = SignedElements.and (signed (f .element) d) (r .row);
       is = ap₂ (λ (x : Option Element) (y : Option SignedElements). joined x y d) (f .is) (r .is);
@@ -77,7 +77,7 @@ signs (tag ∷ tags) i es d h =
 
 -- what the tag by tag answer leaves has no UN to meet
 pub never-met : (tags : List ℕ) (es : Elements) (d : List ℕ) → tagsAnswer 0 tags es .number ≡ 0 → met (content tags es d) ≡ false
-never-met tags es d h = let r = signs tags 0 es d h in ap met (r .is) ∙ r .unmet
+never-met tags es d h = let r = has-content tags 0 es d h in ap met (r .is) ∙ r .unmet
 
 -- a content is that of the first listed element and that of the others
 record Joined (o : Option Element) (p : Option SignedElements) (d : List ℕ) (row : SignedElements) : Type 0 where
@@ -93,7 +93,7 @@ joined-of (some e) Opt.none d row h = absurd (true≢false (cc))
 joined-of (some e) (some r) d row h = record { element = e; rest = r; found = refl; others = refl; is = cc }
 
 -- ---- the stream is the content's encoding, and the content is decodable
-module _ (d : List ℕ) (sound : Sound d) (es : Elements) (left floor at next : ℕ) (lies : ElementsLie es d left floor at next) where
+module _ (d : List ℕ) (sound : WithinSize d) (es : Elements) (left floor at next : ℕ) (lies : ElementsLie es d left floor at next) where
   pub listed-encoded : (tags : List ℕ) (row : SignedElements) → content tags es d ≡ some row → listedStream tags es d ≡ encodeElements row
   unfolding content listedStream encodeElements
   listed-encoded [] row h = let q : SignedElements.none ≡ row = cc in rw (← q)
@@ -117,9 +117,9 @@ module _ (d : List ℕ) (sound : Sound d) (es : Elements) (left floor at next : 
       )
 
 -- ---- the same content in another data set, with no UN inside a listed sequence: none of 13, 14 and 15 there either
-same-good : (o o′ : Option Element) (p p′ : Option SignedElements) (d d′ : List ℕ) (row : SignedElements) → Good o → Joined o p d row → Joined o′ p′ d′ row
-    → foundHoldsUN o′ ≡ false → Good o′
-same-good o o′ p p′ d d′ row g j j′ n =
+same-unrefused : (o o′ : Option Element) (p p′ : Option SignedElements) (d d′ : List ℕ) (row : SignedElements) → Unrefused o → Joined o p d row → Joined o′ p′ d′ row
+    → foundHoldsUN o′ ≡ false → Unrefused o′
+same-unrefused o o′ p p′ d d′ row g j j′ n =
     let e : signed (j′ .element) d′ ≡ signed (g .element) d = cc (j .found, g .is, j .is, j′ .is) in
     record {
       element = j′ .element;
@@ -133,10 +133,10 @@ pub same-tags : (tags : List ℕ) (i : ℕ) (es ks : Elements) (d s : List ℕ) 
 unfolding tagsAnswer content listedHoldUN
 same-tags [] i es ks d s row h c k n = refl
 same-tags (tag ∷ tags) i es ks d s row h c k n =
-    let g = good-tags i tag tags es h in
+    let g = tags-unrefused i tag tags es h in
     let j = joined-of (find tag es) (content tags es d) d row c in
     let l = joined-of (find tag ks) (content tags ks s) s row k in
     let r : l .rest ≡ j .rest = cc (j .is, l .is) in
-    let f = same-good (find tag es) (find tag ks) (content tags es d) (content tags ks s) d s row (g .first) j l (first-false (foundHoldsUN (find tag ks)) (listedHoldUN tags ks) n) in
-    ap (λ (a : Answer). a .number) (or-else-second (elementAnswer i (find tag ks)) (tagsAnswer (i + 1) tags ks) (good-element i (find tag ks) f))
+    let f = same-unrefused (find tag es) (find tag ks) (content tags es d) (content tags ks s) d s row (g .first) j l (first-false (foundHoldsUN (find tag ks)) (listedHoldUN tags ks) n) in
+    ap (λ (a : Answer). a .number) (or-else-second (elementAnswer i (find tag ks)) (tagsAnswer (i + 1) tags ks) (unrefused-element i (find tag ks) f))
     ∙ same-tags tags (i + 1) es ks d s (j .rest) (g .rest) (j .others) (l .others ∙ ap some r) (second-false (foundHoldsUN (find tag ks)) (listedHoldUN tags ks) n)

@@ -15,32 +15,32 @@ use Rattle.mac.specs.TagList.{tagsIn, ascending, unbarred, listAnswer}
 use Rattle.mac.specs.Stream.{listedStream}
 use Rattle.mac.specs.ListMode.{treeOf, stream, answer}
 use Rattle.mac.specs.Theorems.{NeverLonger, Never17, AcceptedOutput, RefusedOutput, VerdictExact}
-use Rattle.mac.proofs.Lengths.{listed-short}
+use Rattle.mac.proofs.Lengths.{listed-no-longer}
 use Rattle.mac.proofs.Answers.{answer-regular}
 use Rattle.mac.proofs.Acceptance.{answer-accepted}
 use Rattle.mac.proofs.Outputs.{output-stream, output-rest, output-room, output-refused}
 use Rattle.mac.proofs.Verdicts.{says}
 
--- a list that is good ascends
+-- the tags of a list that is not refused ascend
 list-ascends : (list : List ℕ) → listAnswer list .number ≡ 0 → ascending 0 0 (tagsIn list) .number ≡ 0
 unfolding listAnswer
 list-ascends list h = both-accepted (ascending 0 0 (tagsIn list)) (unbarred 0 (tagsIn list)) (both-accepted _ _ h .second) .first
 
 -- a refused data set has no elements
 module _ (d tags : List ℕ) (a : ascending 0 0 tags .number ≡ 0) where
-  short-by : (r : Reading Elements) → dataSet d ≡ r → length (listedStream tags (treeOf r) d) ≤ length d
+  tree-no-longer : (r : Reading Elements) → dataSet d ≡ r → length (listedStream tags (treeOf r) d) ≤ length d
   unfolding ElementsLie
-  short-by (Reading.fault f) e =
-      let h = listed-short d levels 0 Elements.none 0 0 tags a Elements.none 0 0 (λ t k. refl) record { order = omega arith; inside = omega arith; even = omega arith } in
+  tree-no-longer (Reading.fault f) e =
+      let h = listed-no-longer d levels 0 Elements.none 0 0 tags a Elements.none 0 0 (λ t k. refl) record { order = omega arith; inside = omega arith; even = omega arith } in
       omega arith
-  short-by (Reading.read es n) e =
+  tree-no-longer (Reading.read es n) e =
       let p = data-set-read d es n e in
-      let h = listed-short d levels n es 0 0 tags a es 0 0 (λ t k. refl) (p .tree) in
+      let h = listed-no-longer d levels n es 0 0 tags a es 0 0 (λ t k. refl) (p .tree) in
       omega (arith, p .whole)
 
 pub never-longer : NeverLonger
 unfolding stream
-never-longer c h = short-by (c .set) (tagsIn (c .list)) (list-ascends (c .list) h) (dataSet (c .set)) refl
+never-longer c h = tree-no-longer (c .set) (tagsIn (c .list)) (list-ascends (c .list) h) (dataSet (c .set)) refl
 
 pub never-17 : Never17
 never-17 c e = let l = answer-regular c .below in omega arith

@@ -14,7 +14,7 @@ use Rattle.mac.specs.ListMode.{Call, stream, answer, isAccepted, outputA
 use Rattle.mac.specs.Injectivity.{Accepted}
 use Rattle.mac.specs.declared.verdict.Verdict.the-variants as verdict
 
--- "The stream is never longer than the data set", wherever the list is good, so in every accepted call.
+-- "The stream is never longer than the data set", wherever the list is not refused, so in every accepted call.
 abbrev pub NeverLonger : Type 0
 NeverLonger = (c : Call) → listAnswer (c .list) .number ≡ 0 → length (stream c) ≤ length (c .set)
 
