@@ -1,6 +1,6 @@
 -- Demand 3, as specs/Injectivity.antt states it. Assumes nothing.
 use Prim.Native.Nat.{ℕ}
-use mathlib.Core.Path.{_≡_, sym, ap, ap₂, _∙_}
+use mathlib.Core.Path.{_≡_, refl, sym, ap, ap₂, _∙_}
 use mathlib.Core.Bool.{false}
 use mathlib.Core.List.{List}
 use mathlib.Core.Option.{some}
@@ -14,7 +14,8 @@ use Rattle.dataset.proofs.Guarantees.{DataSetIs, data-set-read}
 use Rattle.digest.specs.Message.{sha256, digestOf}
 use Rattle.mac.specs.TagList.{tagsIn}
 use Rattle.mac.specs.Content.{SignedElements}
-use Rattle.mac.specs.ListMode.{Call, tree, contentOf, stream, answer, compared, verdictOf}
+use Rattle.mac.specs.ListMode.{Call, tree, contentOf, stream, answer, compared, verdictOf, streamCall, checkCall, Streamed, CheckedAs}
+use Rattle.mac.specs.declared.verdict.Checked.{Checked}
 use Rattle.mac.specs.declared.verdict.Verdict.the-variants as verdict
 use Rattle.mac.specs.Injectivity.{Bytes, Accepted, signedInFragments, on, FirstHalf, SecondHalf, Run, written, FirstHalfOfCalls, SecondHalfOfCalls}
 use Rattle.mac.proofs.Encoding.{encodeElements}
@@ -117,6 +118,15 @@ second-half c d b b′ h w same none = record { answers = answers; verdict = sam
     answers = answer-accepts k a′ ∙ ap (λ (x : List ℕ). accepted (length x)) streams ∙ sym (answer-accepts c a)
 
 -- ---- of the calls themselves
+
+-- what the functions promise makes a run
+pub streamed-run : (list set out after : List ℕ) (r : Answer) → Streamed (streamCall list set out) out r after → Run (streamCall list set out) out r after
+streamed-run list set out after r u = record { room = refl; answers = u .answers; output = u .output }
+
+pub checked-run : (list set expected work after : List ℕ) (r : Checked) → CheckedAs (checkCall list set expected work) work r after
+    → Run (checkCall list set expected work) work (r .answer) after
+checked-run list set expected work after r u = record { room = refl; answers = u .answers; output = u .output }
+
 run-accepted : (c : Call) (out after : List ℕ) (r : Answer) → Run c out r after → r .number ≡ 0 → Accepted c
 run-accepted c out after r u h = eq-eqb (answer c .number) 0 (ap (λ (x : Answer). x .number) (sym (u .answers)) ∙ h)
 
