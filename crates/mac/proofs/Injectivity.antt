@@ -30,16 +30,16 @@ module _ (c : Call) (b : Bytes (c .set)) (r : IsRead (c .set)) (row : SignedElem
   placed : DataSetIs (c .set) (tree (c .set)) (r .next)
   placed = data-set-read (c .set) (tree (c .set)) (r .next) (r .is)
 
-  sound : WithinSize (c .set)
-  sound = record { bytes = b; small = placed .small }
+  within : WithinSize (c .set)
+  within = record { bytes = b; small = placed .small }
 
   stream-encoded : stream c ≡ encodeElements row
   unfolding stream contentOf
-  stream-encoded = listed-encoded (c .set) sound (tree (c .set)) _ 0 0 (r .next) (placed .tree) (tagsIn (c .list)) row is
+  stream-encoded = listed-encoded (c .set) within (tree (c .set)) _ 0 0 (r .next) (placed .tree) (tagsIn (c .list)) row is
 
   call-decodable : signedInFragments (contentOf c) ≡ false → ElementsDecodable row
   unfolding contentOf
-  call-decodable n = content-decodable (c .set) sound (tree (c .set)) _ 0 0 (r .next) (placed .tree) (tagsIn (c .list)) row is (sym (ap signedInFragments is) ∙ n)
+  call-decodable n = content-decodable (c .set) within (tree (c .set)) _ 0 0 (r .next) (placed .tree) (tagsIn (c .list)) row is (sym (ap signedInFragments is) ∙ n)
 
 -- an accepted call has a signed content
 call-has-content : (c : Call) → Accepts c → HasContent (tagsIn (c .list)) (tree (c .set)) (c .set)

@@ -93,7 +93,7 @@ joined-of (some e) Opt.none d row h = absurd (true≢false (cc))
 joined-of (some e) (some r) d row h = record { element = e; rest = r; found = refl; others = refl; is = cc }
 
 -- ---- the stream is the content's encoding, and the content is decodable
-module _ (d : List ℕ) (sound : WithinSize d) (es : Elements) (left floor at next : ℕ) (lies : ElementsLie es d left floor at next) where
+module _ (d : List ℕ) (within : WithinSize d) (es : Elements) (left floor at next : ℕ) (lies : ElementsLie es d left floor at next) where
   pub listed-encoded : (tags : List ℕ) (row : SignedElements) → content tags es d ≡ some row → listedStream tags es d ≡ encodeElements row
   unfolding content listedStream encodeElements
   listed-encoded [] row h = let q : SignedElements.none ≡ row = cc in rw (← q)
@@ -101,7 +101,7 @@ module _ (d : List ℕ) (sound : WithinSize d) (es : Elements) (left floor at ne
       let j = joined-of (find tag es) (content tags es d) d row h in
       let f = found-at tag es d left floor at next lies (j .element) (j .found) in
       ap₂ (λ (x : Option Element) (y : List ℕ). foundStream x d ++ y) (j .found) (listed-encoded tags (j .rest) (j .others))
-      ∙ ap (λ (x : List ℕ). x ++ encodeElements (j .rest)) (element-encoded (j .element) d (sound .bytes) left (f .from) (f .mid) (f .lies))
+      ∙ ap (λ (x : List ℕ). x ++ encodeElements (j .rest)) (element-encoded (j .element) d (within .bytes) left (f .from) (f .mid) (f .lies))
       ∙ ap encodeElements (j .is)
 
   pub content-decodable : (tags : List ℕ) (row : SignedElements) → content tags es d ≡ some row → someInFragments row ≡ false → ElementsDecodable row
@@ -112,7 +112,7 @@ module _ (d : List ℕ) (sound : WithinSize d) (es : Elements) (left floor at ne
       let f = found-at tag es d left floor at next lies (j .element) (j .found) in
       let m : someInFragments (SignedElements.and (signed (j .element) d) (j .rest)) ≡ false = ap someInFragments (j .is) ∙ n in
       subst ElementsDecodable (j .is) (
-        element-decodable (j .element) d sound left (f .from) (f .mid) (f .lies) (first-false (inFragments (signed (j .element) d)) (someInFragments (j .rest)) m),
+        element-decodable (j .element) d within left (f .from) (f .mid) (f .lies) (first-false (inFragments (signed (j .element) d)) (someInFragments (j .rest)) m),
         content-decodable tags (j .rest) (j .others) (second-false (inFragments (signed (j .element) d)) (someInFragments (j .rest)) m),
       )
 
