@@ -1,11 +1,11 @@
 -- Demand 3, as specs/Injectivity.antt states it. Assumes nothing.
 use Prim.Native.Nat.{ℕ}
 use mathlib.Core.Path.{_≡_, refl, sym, ap, ap₂, _∙_}
-use mathlib.Core.Bool.{false}
+use mathlib.Core.Bool.{Bool, true, false}
 use mathlib.Core.List.{List}
 use mathlib.Core.Option.{some}
 use lib.Dec.{eqb}
-use lib.ListN.{length}
+use lib.ListN.{length, take}
 use borrow.Author.Tests.{eqb-true, eq-eqb}
 use Rattle.answer.specs.declared.Answer.{Answer}
 use Rattle.answer.specs.If.{if_then_else_}
@@ -14,7 +14,7 @@ use Rattle.dataset.proofs.Guarantees.{DataSetIs, data-set-read}
 use Rattle.digest.specs.Message.{sha256, digestOf}
 use Rattle.mac.specs.TagList.{tagsIn}
 use Rattle.mac.specs.Content.{SignedElements}
-use Rattle.mac.specs.ListMode.{Call, tree, contentOf, stream, answer, compared, verdictOf, streamCall, checkCall, Streamed, CheckedAs}
+use Rattle.mac.specs.ListMode.{Call, tree, contentOf, stream, answer, isAccepted, compared, verdictOf, streamCall, checkCall, Streamed, CheckedAs}
 use Rattle.mac.specs.declared.verdict.Checked.{Checked}
 use Rattle.mac.specs.declared.verdict.Verdict.the-variants as verdict
 use Rattle.mac.specs.Injectivity.{Bytes, Accepted, signedInFragments, on, FirstHalf, SecondHalf, Run, written, FirstHalfOfCalls, SecondHalfOfCalls}
@@ -120,19 +120,26 @@ second-half c d b b′ h w same none = record { answers = answers; verdict = sam
 -- ---- of the calls themselves
 
 -- what the functions promise makes a run
-pub streamed-run : (list set out after : List ℕ) (r : Answer) → Streamed (streamCall list set out) out r after → Run (streamCall list set out) out r after
-streamed-run list set out after r u = record { room = refl; answers = u .answers; output = u .output }
+pub streamed-run : (list set out after : List ℕ) (r : Answer) → Streamed (streamCall list set out) out r after
+    → Run (streamCall list set out) out (record { answer = r; verdict = verdict.Neither }) after
+unfolding verdictOf if_then_else_
+streamed-run list set out after r u = record { room = refl; answers = u .answers; says = go (isAccepted (streamCall list set out)); output = u .output }
+  where
+    go : (a : Bool) → verdict.Neither ≡ (if a then verdict.Neither else verdict.Neither)
+    go true = refl
+    go false = refl
 
 pub checked-run : (list set expected work after : List ℕ) (r : Checked) → CheckedAs (checkCall list set expected work) work r after
-    → Run (checkCall list set expected work) work (r .answer) after
-checked-run list set expected work after r u = record { room = refl; answers = u .answers; output = u .output }
+    → Run (checkCall list set expected work) work r after
+checked-run list set expected work after r u = record { room = refl; answers = u .answers; says = u .says; output = u .output }
 
-run-accepted : (c : Call) (out after : List ℕ) (r : Answer) → Run c out r after → r .number ≡ 0 → Accepted c
-run-accepted c out after r u h = eq-eqb (answer c .number) 0 (ap (λ (x : Answer). x .number) (sym (u .answers)) ∙ h)
+module _ (c : Call) (out after : List ℕ) (r : Checked) (u : Run c out r after) where
+  run-accepted : r .answer .number ≡ 0 → Accepted c
+  run-accepted h = eq-eqb (answer c .number) 0 (ap (λ (x : Answer). x .number) (sym (u .answers)) ∙ h)
 
--- what an accepted call has written is its stream
-written-stream : (c : Call) (out after : List ℕ) (r : Answer) → Run c out r after → Accepted c → written r after ≡ stream c
-written-stream c out after r u h = ap₂ written (u .answers) (u .output) ∙ output-stream c out h
+  -- what an accepted call has written is its stream
+  written-stream : Accepted c → written r after ≡ stream c
+  written-stream h = ap₂ (λ (x : Answer) (y : List ℕ). take (x .length) y) (u .answers) (u .output) ∙ output-stream c out h
 
 pub first-half-of-calls : FirstHalfOfCalls
 first-half-of-calls c k out out′ after after′ r r′ u u′ b b′ h h′ n n′ =
@@ -147,6 +154,10 @@ pub second-half-of-calls : SecondHalfOfCalls
 second-half-of-calls c s out out′ after after′ r r′ u u′ b b′ h w same none =
     let a = run-accepted c out after r u h in
     let f = second-half c s b b′ a w same none in
-    let q : r′ ≡ r = u′ .answers ∙ f .answers ∙ sym (u .answers) in
+    let q : r′ .answer ≡ r .answer = u′ .answers ∙ f .answers ∙ sym (u .answers) in
     let a′ = run-accepted (on c s) out′ after′ r′ u′ (ap (λ (x : Answer). x .number) q ∙ h) in
-    (q, written-stream (on c s) out′ after′ r′ u′ a′ ∙ f .streams ∙ sym (written-stream c out after r u a), f .verdict)
+    record {
+      answers = q;
+      verdict = u′ .says ∙ f .verdict ∙ sym (u .says);
+      streams = written-stream (on c s) out′ after′ r′ u′ a′ ∙ f .streams ∙ sym (written-stream c out after r u a);
+    }

@@ -9,13 +9,13 @@ use mathlib.Core.List.{List, [], _∷_}
 use mathlib.Core.Option.{Option, some}
 use mathlib.Core.Option as Opt
 use lib.ListN.{length, getD, take}
-use Rattle.answer.specs.declared.Answer.{Answer}
 use Rattle.dataset.specs.Tree.{Element, Elements}
 use Rattle.dataset.specs.Reading.{WellFormed}
 use Rattle.dataset.specs.Lookup.{find}
 use Rattle.mac.specs.TagList.{tagsIn}
 use Rattle.mac.specs.Content.{SignedElements, someInFragments}
 use Rattle.mac.specs.ListMode.{holdsUN, Call, tree, contentOf, stream, answer, isAccepted, verdictOf, outputAfter}
+use Rattle.mac.specs.declared.verdict.Checked.{Checked}
 
 -- a list of bytes
 abbrev pub Bytes : List ℕ → Type 0
@@ -60,24 +60,32 @@ SecondHalf =
     (c : Call) (s : List ℕ) → Bytes (c .set) → Bytes s → Accepted c → WellFormed s → contentOf (on c s) ≡ contentOf c → listedHoldUN (tagsIn (c .list)) (tree s) ≡ false
     → SameResult c (on c s)
 
--- The same of the calls themselves, by what they give back: r is the answer of a call, and `after` what it leaves in its output or work buffer `out`.
-pub record Run (c : Call) (out : List ℕ) (r : Answer) (after : List ℕ) : Type 0 where
+-- The same of the calls themselves, by what they give back: r is the answer and the verdict of a call (a call for the stream says neither), and `after`
+-- what it leaves in its output or work buffer `out`.
+pub record Run (c : Call) (out : List ℕ) (r : Checked) (after : List ℕ) : Type 0 where
   pub room : c .room ≡ length out
-  pub answers : r ≡ answer c
+  pub answers : r .answer ≡ answer c
+  pub says : r .verdict ≡ verdictOf c
   pub output : after ≡ outputAfter c out
 
--- the stream that a call has written
-abbrev pub written : Answer → List ℕ → List ℕ
-written r after = take (r .length) after
+-- the stream that a call has written: "the first length bytes" of the output
+abbrev pub written : Checked → List ℕ → List ℕ
+written r after = take (r .answer .length) after
 
 abbrev pub FirstHalfOfCalls : Type 0
 FirstHalfOfCalls =
-    (c k : Call) (out out′ after after′ : List ℕ) (r r′ : Answer) → Run c out r after → Run k out′ r′ after′ → Bytes (c .set) → Bytes (k .set)
-    → r .number ≡ 0 → r′ .number ≡ 0 → signedInFragments (contentOf c) ≡ false → signedInFragments (contentOf k) ≡ false
+    (c k : Call) (out out′ after after′ : List ℕ) (r r′ : Checked) → Run c out r after → Run k out′ r′ after′ → Bytes (c .set) → Bytes (k .set)
+    → r .answer .number ≡ 0 → r′ .answer .number ≡ 0 → signedInFragments (contentOf c) ≡ false → signedInFragments (contentOf k) ≡ false
     → (written r after ≡ written r′ after′) ↔ (contentOf c ≡ contentOf k)
+
+-- "the two answers are equal, in a check the verdict too, and so are the first length bytes of the two outputs or work buffers"
+pub record SameRun (r r′ : Checked) (after after′ : List ℕ) : Type 0 where
+  pub answers : r′ .answer ≡ r .answer
+  pub verdict : r′ .verdict ≡ r .verdict
+  pub streams : written r′ after′ ≡ written r after
 
 abbrev pub SecondHalfOfCalls : Type 0
 SecondHalfOfCalls =
-    (c : Call) (s out out′ after after′ : List ℕ) (r r′ : Answer) → Run c out r after → Run (on c s) out′ r′ after′ → Bytes (c .set) → Bytes s
-    → r .number ≡ 0 → WellFormed s → contentOf (on c s) ≡ contentOf c → listedHoldUN (tagsIn (c .list)) (tree s) ≡ false
-    → (r′ ≡ r) × (written r′ after′ ≡ written r after) × (verdictOf (on c s) ≡ verdictOf c)
+    (c : Call) (s out out′ after after′ : List ℕ) (r r′ : Checked) → Run c out r after → Run (on c s) out′ r′ after′ → Bytes (c .set) → Bytes s
+    → r .answer .number ≡ 0 → WellFormed s → contentOf (on c s) ≡ contentOf c → listedHoldUN (tagsIn (c .list)) (tree s) ≡ false
+    → SameRun r r′ after after′
