@@ -9,7 +9,8 @@ pub mod Listed
 pub mod Acceptance
 pub mod Outputs
 pub mod Injectivity
-pub mod Lengths
+pub mod StreamLength
+pub mod NeverLonger
 pub mod Answers
 pub mod Verdicts
 pub mod Theorems

@@ -15,7 +15,7 @@ use Rattle.mac.specs.TagList.{tagsIn, ascending, unbarred, listAnswer}
 use Rattle.mac.specs.Stream.{listedStream}
 use Rattle.mac.specs.ListMode.{treeOf, stream, answer}
 use Rattle.mac.specs.Theorems.{NeverLonger, Never17, AcceptedOutput, RefusedOutput, VerdictExact}
-use Rattle.mac.proofs.Lengths.{listed-no-longer}
+use Rattle.mac.proofs.NeverLonger.{listed-no-longer}
 use Rattle.mac.proofs.Answers.{answer-regular}
 use Rattle.mac.proofs.Acceptance.{answer-accepted}
 use Rattle.mac.proofs.Outputs.{output-stream, output-rest, output-room, output-refused}
