@@ -1,0 +1,43 @@
+-- Laws of refusals in their written order, `_orElse_`. Assumes nothing.
+use Prim.Native.Nat.{ℕ}
+use mathlib.Core.Path.{_≡_, refl, sym, _∙_}
+use mathlib.Core.Logic.{_≢_}
+use mathlib.Core.Bool.{Bool, true, false, false≢true}
+use lib.Dec.{eqb}
+use borrow.Author.Tests.{eqb-true, eq-eqb}
+use Rattle.answer.specs.If.{if_then_else_}
+use Rattle.answer.specs.Answer.{accepted, refused, _orElse_}
+use Rattle.answer.specs.declared.Answer.{Answer}
+
+-- where the first is accepted the second stands
+pub or-else-second : (a b : Answer) → a .number ≡ 0 → (a orElse b) ≡ b
+unfolding _orElse_ if_then_else_
+or-else-second a b h = rw (eq-eqb (a .number) 0 h)
+
+-- what holds of the first, and of the second where the first is accepted, holds of the chain
+pub or-else-holds : (P : Answer → Type 0) (a b : Answer) → P a → (a .number ≡ 0 → P b) → P (a orElse b)
+unfolding _orElse_ if_then_else_
+or-else-holds P a b h k = go (eqb (a .number) 0) refl
+  where
+    go : (t : Bool) → eqb (a .number) 0 ≡ t → P (if t then b else a)
+    go true e = k (eqb-true (a .number) 0 e)
+    go false e = h
+
+-- an accepted chain: each link is accepted
+pub record BothAccepted (a b : Answer) : Type 0 where
+  pub first : a .number ≡ 0
+  pub second : b .number ≡ 0
+
+pub both-accepted : (a b : Answer) → (a orElse b) .number ≡ 0 → BothAccepted a b
+unfolding _orElse_ if_then_else_
+both-accepted a b = go (eqb (a .number) 0) refl
+  where
+    go : (t : Bool) → eqb (a .number) 0 ≡ t → (if t then b else a) .number ≡ 0 → BothAccepted a b
+    go true e h = record { first = eqb-true (a .number) 0 e; second = h }
+    go false e h = absurd (false≢true (sym e ∙ eq-eqb (a .number) 0 h))
+
+-- a refusal by a test
+pub passed : (test : Bool) (number position : ℕ) → number ≢ 0 → (if test then refused number position else accepted 0) .number ≡ 0 → test ≡ false
+unfolding if_then_else_
+passed true number position n h = absurd (n h)
+passed false number position n h = refl

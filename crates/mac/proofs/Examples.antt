@@ -1,0 +1,19 @@
+-- The starred examples, all at once: both lists are computed. Assumes nothing.
+use mathlib.Core.Path.{refl}
+use Rattle.answer.specs.If as answer
+use Rattle.answer.specs.Answer.{_orElse_}
+use Rattle.dataset.specs.If as dataset
+use Rattle.dataset.specs.Bytes.{num16, num32, tagAt, vrAt, between}
+use Rattle.dataset.specs.Vr.{formOf, oneOf}
+use Rattle.dataset.specs.Header.{endsAt, closedBy, valueBy, longAt, byForm, vrOnAt, elementAt, itemBy, itemAt}
+use Rattle.dataset.specs.Reading.{byHeader, byOne, byItem, byFragment, fragmentsBy, elementsBy, elementsAt, dataSet}
+use Rattle.dataset.specs.Lookup.{find}
+use Rattle.mac.specs.TagList.{tagsIn, barred, badSize, ascending, unbarred, listAnswer}
+use Rattle.mac.specs.Content.{fragmentBytes, signed, content}
+use Rattle.mac.specs.Stream.{fragmentsStream, streamOf, listedStream}
+use Rattle.mac.specs.ListMode.{holdsUN, elementAnswer, tagsAnswer, writesUN, metInSequence, contentOf, stream, answer, outputAfter}
+use Rattle.mac.specs.Examples.{examples, ExamplesHold}
+
+pub examples-hold : ExamplesHold
+unfolding examples answer outputAfter stream contentOf _orElse_ answer.if_then_else_ listAnswer badSize ascending unbarred barred tagsIn tagsAnswer elementAnswer holdsUN writesUN metInSequence content signed fragmentBytes listedStream streamOf fragmentsStream find dataSet elementsAt elementsBy fragmentsBy byHeader byOne byItem byFragment elementAt vrOnAt byForm longAt valueBy itemAt itemBy endsAt closedBy dataset.if_then_else_ formOf oneOf num16 num32 tagAt vrAt between
+examples-hold = refl

@@ -1,0 +1,163 @@
+-- Demand 3, as specs/Injectivity.antt states it. Assumes nothing.
+use Prim.Native.Nat.{ℕ}
+use mathlib.Core.Path.{_≡_, refl, sym, ap, ap₂, _∙_}
+use mathlib.Core.Bool.{Bool, true, false}
+use mathlib.Core.List.{List}
+use mathlib.Core.Option.{some}
+use lib.Dec.{eqb}
+use lib.ListN.{length, take}
+use borrow.Author.Tests.{eqb-true, eq-eqb}
+use Rattle.answer.specs.declared.Answer.{Answer}
+use Rattle.answer.specs.If.{if_then_else_}
+use Rattle.answer.specs.Answer.{accepted}
+use Rattle.dataset.proofs.Guarantees.{DataSetIs, data-set-read}
+use Rattle.digest.specs.Message.{sha256, digestOf}
+use Rattle.mac.specs.TagList.{tagsIn}
+use Rattle.mac.specs.Content.{SignedElements}
+use Rattle.mac.specs.ListMode.{Call, tree, contentOf, stream, answer, isAccepted, compared, verdictOf, streamCall, checkCall, Streamed, CheckedAs}
+use Rattle.mac.specs.declared.verdict.Checked.{Checked}
+use Rattle.mac.specs.declared.verdict.Verdict.the-variants as verdict
+use Rattle.mac.specs.Injectivity.{Bytes, Accepted, signedInFragments, on, FirstHalf, SecondHalf, Run, written, FirstHalfOfCalls, SecondHalfOfCalls}
+use Rattle.mac.proofs.Encoding.{encodeElements}
+use Rattle.mac.proofs.Decoding.{ElementsDecodable, injective}
+use Rattle.mac.proofs.Decodable.{WithinSize}
+use Rattle.mac.proofs.Listed.{HasContent, has-content, listed-encoded, content-decodable, same-tags}
+use Rattle.mac.proofs.Outputs.{output-stream}
+use Rattle.mac.proofs.Acceptance.{IsRead, is-read, Accepts, accepts, answer-accepts}
+
+-- ---- the stream of a call is the encoding of its signed content
+module _ (c : Call) (b : Bytes (c .set)) (r : IsRead (c .set)) (row : SignedElements) (is : contentOf c ≡ some row) where
+  placed : DataSetIs (c .set) (tree (c .set)) (r .next)
+  placed = data-set-read (c .set) (tree (c .set)) (r .next) (r .is)
+
+  within : WithinSize (c .set)
+  within = record { bytes = b; small = placed .small }
+
+  stream-encoded : stream c ≡ encodeElements row
+  unfolding stream contentOf
+  stream-encoded = listed-encoded (c .set) within (tree (c .set)) _ 0 0 (r .next) (placed .tree) (tagsIn (c .list)) row is
+
+  call-decodable : signedInFragments (contentOf c) ≡ false → ElementsDecodable row
+  unfolding contentOf
+  call-decodable n = content-decodable (c .set) within (tree (c .set)) _ 0 0 (r .next) (placed .tree) (tagsIn (c .list)) row is (sym (ap signedInFragments is) ∙ n)
+
+-- an accepted call has a signed content
+call-has-content : (c : Call) → Accepts c → HasContent (tagsIn (c .list)) (tree (c .set)) (c .set)
+call-has-content c a = has-content (tagsIn (c .list)) 0 (tree (c .set)) (c .set) (a .tags)
+
+number-0 : (c : Call) → Accepted c → answer c .number ≡ 0
+number-0 c h = eqb-true (answer c .number) 0 h
+
+-- ---- over the definitions
+pub first-half : FirstHalf
+unfolding contentOf
+first-half c k b b′ h h′ n n′ = (there, here)
+  where
+    a : Accepts c
+    a = accepts c (number-0 c h)
+
+    a′ : Accepts k
+    a′ = accepts k (number-0 k h′)
+
+    s : HasContent (tagsIn (c .list)) (tree (c .set)) (c .set)
+    s = call-has-content c a
+
+    s′ : HasContent (tagsIn (k .list)) (tree (k .set)) (k .set)
+    s′ = call-has-content k a′
+
+    e : stream c ≡ encodeElements (s .row)
+    e = stream-encoded c b (a .read) (s .row) (s .is)
+
+    e′ : stream k ≡ encodeElements (s′ .row)
+    e′ = stream-encoded k b′ (a′ .read) (s′ .row) (s′ .is)
+
+    there : stream c ≡ stream k → contentOf c ≡ contentOf k
+    there q =
+        s .is
+        ∙ ap some
+        (injective (s .row) (s′ .row) (call-decodable c b (a .read) (s .row) (s .is) n) (call-decodable k b′ (a′ .read) (s′ .row) (s′ .is) n′) (sym e ∙ q ∙ e′))
+        ∙ sym (s′ .is)
+
+    here : contentOf c ≡ contentOf k → stream c ≡ stream k
+    here q = let r : s .row ≡ s′ .row = cc (s .is, s′ .is, q) in e ∙ ap encodeElements r ∙ sym e′
+
+same-verdict : (c : Call) (d : List ℕ) → answer (on c d) ≡ answer c → stream (on c d) ≡ stream c → verdictOf (on c d) ≡ verdictOf c
+unfolding verdictOf
+same-verdict c d a s =
+    ap₂ (λ (x : Answer) (y : List ℕ). if eqb (x .number) 0 then compared (c .expected) (digestOf sha256 y) else verdict.Neither) a s
+
+pub second-half : SecondHalf
+unfolding contentOf
+second-half c d b b′ h w same none = record { answers = answers; verdict = same-verdict c d answers streams; streams = streams }
+  where
+    k : Call
+    k = on c d
+
+    a : Accepts c
+    a = accepts c (number-0 c h)
+
+    s : HasContent (tagsIn (c .list)) (tree (c .set)) (c .set)
+    s = call-has-content c a
+
+    r : IsRead d
+    r = is-read d (ap (λ (x : Answer). x .number) w)
+
+    streams : stream k ≡ stream c
+    streams = stream-encoded k b′ r (s .row) (same ∙ s .is) ∙ sym (stream-encoded c b (a .read) (s .row) (s .is))
+
+    a′ : Accepts k
+    a′ = record {
+      list = a .list;
+      read = r;
+      tags = same-tags (tagsIn (c .list)) 0 (tree (c .set)) (tree d) (c .set) d (s .row) (a .tags) (s .is) (same ∙ s .is) none;
+      digest = a .digest;
+      room = rw streams (a .room);
+    }
+
+    answers : answer k ≡ answer c
+    answers = answer-accepts k a′ ∙ ap (λ (x : List ℕ). accepted (length x)) streams ∙ sym (answer-accepts c a)
+
+-- ---- of the calls themselves
+
+-- what the functions promise makes a run
+pub streamed-run : (list set out after : List ℕ) (r : Answer) → Streamed (streamCall list set out) out r after
+    → Run (streamCall list set out) out (record { answer = r; verdict = verdict.Neither }) after
+unfolding verdictOf if_then_else_
+streamed-run list set out after r u = record { room = refl; answers = u .answers; says = go (isAccepted (streamCall list set out)); output = u .output }
+  where
+    go : (a : Bool) → verdict.Neither ≡ (if a then verdict.Neither else verdict.Neither)
+    go true = refl
+    go false = refl
+
+pub checked-run : (list set expected work after : List ℕ) (r : Checked) → CheckedAs (checkCall list set expected work) work r after
+    → Run (checkCall list set expected work) work r after
+checked-run list set expected work after r u = record { room = refl; answers = u .answers; says = u .says; output = u .output }
+
+module _ (c : Call) (out after : List ℕ) (r : Checked) (u : Run c out r after) where
+  run-accepted : r .answer .number ≡ 0 → Accepted c
+  run-accepted h = eq-eqb (answer c .number) 0 (ap (λ (x : Answer). x .number) (sym (u .answers)) ∙ h)
+
+  -- what an accepted call has written is its stream
+  written-stream : Accepted c → written r after ≡ stream c
+  written-stream h = ap₂ (λ (x : Answer) (y : List ℕ). take (x .length) y) (u .answers) (u .output) ∙ output-stream c out h
+
+pub first-half-of-calls : FirstHalfOfCalls
+first-half-of-calls c k out out′ after after′ r r′ u u′ b b′ h h′ n n′ =
+    let a = run-accepted c out after r u h in
+    let a′ = run-accepted k out′ after′ r′ u′ h′ in
+    let w = written-stream c out after r u a in
+    let w′ = written-stream k out′ after′ r′ u′ a′ in
+    let f = first-half c k b b′ a a′ n n′ in
+    (λ q. f .0 (sym w ∙ q ∙ w′), λ q. w ∙ f .1 q ∙ sym w′)
+
+pub second-half-of-calls : SecondHalfOfCalls
+second-half-of-calls c s out out′ after after′ r r′ u u′ b b′ h w same none =
+    let a = run-accepted c out after r u h in
+    let f = second-half c s b b′ a w same none in
+    let q : r′ .answer ≡ r .answer = u′ .answers ∙ f .answers ∙ sym (u .answers) in
+    let a′ = run-accepted (on c s) out′ after′ r′ u′ (ap (λ (x : Answer). x .number) q ∙ h) in
+    record {
+      answers = q;
+      verdict = u′ .says ∙ f .verdict ∙ sym (u .says);
+      streams = written-stream (on c s) out′ after′ r′ u′ a′ ∙ f .streams ∙ sym (written-stream c out after r u a);
+    }

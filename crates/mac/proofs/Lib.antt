@@ -1,0 +1,17 @@
+pub mod Either
+pub mod Slices
+pub mod Encoding
+pub mod Decoding
+pub mod Decodable
+pub mod UnknownVr
+pub mod Found
+pub mod Listed
+pub mod Acceptance
+pub mod Outputs
+pub mod Injectivity
+pub mod StreamLength
+pub mod NeverLonger
+pub mod Answers
+pub mod Verdicts
+pub mod Theorems
+pub mod Examples

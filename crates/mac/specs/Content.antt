@@ -1,0 +1,81 @@
+-- Signed content (a term of 01): "each listed element's tag and VR with its value", with no lengths of sequences and items and no offsets. "It is defined without
+-- the stream."
+-- Assumes nothing.
+use Prim.Native.Nat.{ℕ}
+use mathlib.Core.Bool.{Bool, true, false, _||_}
+use mathlib.Core.List.{List, [], _∷_}
+use mathlib.Core.Option.{Option, some}
+use mathlib.Core.Option as Opt
+use Rattle.answer.specs.If.{if_then_else_}
+use Rattle.dataset.specs.Bytes.{between}
+use Rattle.dataset.specs.Tree.{Span, Element, Elements, Items, tagOf}
+use Rattle.dataset.specs.Lookup.{find}
+use Rattle.mac.specs.TagList.{barred}
+
+mutual
+  -- an element's tag and VR with its value. "A row of fragments and a value of bytes are never the same value, even when both are empty."
+  pub data SignedElement : Type 0 where
+    value : (tag vr : ℕ) (bytes : List ℕ) → SignedElement
+    sequence : (tag : ℕ) (items : SignedItems) → SignedElement
+    fragments : (tag : ℕ) (rows : List (List ℕ)) → SignedElement
+
+  -- a row of elements
+  pub data SignedElements : Type 0 where
+    none : SignedElements
+    and : (first : SignedElement) (rest : SignedElements) → SignedElements
+
+  -- "the row of items, each the row of its elements"
+  pub data SignedItems : Type 0 where
+    last : SignedItems
+    item : (elements : SignedElements) (rest : SignedItems) → SignedItems
+
+-- "the row of fragments"
+unfoldable pub fragmentBytes : List Span → List ℕ → List (List ℕ)
+fragmentBytes [] d = []
+fragmentBytes (s ∷ rest) d = between d (s .start) (s .end) ∷ fragmentBytes rest d
+
+-- a barred element is left out
+abbrev pub unlessBarred : (barred : Bool) → SignedElement → SignedElements → SignedElements
+unlessBarred true e rest = rest
+unlessBarred false e rest = SignedElements.and e rest
+
+-- The content of an element of the data set d: "for SQ the value is the row of items, each the row of its elements that aren't barred, by the same rule; for
+-- undefined OB it is the row of fragments; otherwise it is the value's bytes".
+unfoldable mutual
+  pub signed : Element → List ℕ → SignedElement
+  signed (Element.value at tag vr span) d = SignedElement.value tag vr (between d (span .start) (span .end))
+  signed (Element.sequence at tag span items) d = SignedElement.sequence tag (signedItems items d)
+  signed (Element.fragments at tag span parts) d = SignedElement.fragments tag (fragmentBytes parts d)
+
+  pub signedElements : Elements → List ℕ → SignedElements
+  signedElements Elements.none d = SignedElements.none
+  signedElements (Elements.and e rest) d = unlessBarred (barred (tagOf e)) (signed e d) (signedElements rest d)
+
+  pub signedItems : Items → List ℕ → SignedItems
+  signedItems Items.last d = SignedItems.last
+  signedItems (Items.item at elements rest) d = SignedItems.item (signedElements elements d) (signedItems rest d)
+
+-- "The signed content of a list in a well-formed data set that holds every listed tag is, in list order, each listed element's .."; none where a tag is absent
+abbrev pub joined : Option Element → Option SignedElements → List ℕ → Option SignedElements
+joined Opt.none rest d = Opt.none
+joined (some e) Opt.none d = Opt.none
+joined (some e) (some rest) d = some (SignedElements.and (signed e d) rest)
+
+unfoldable pub content : (tags : List ℕ) → Elements → List ℕ → Option SignedElements
+content [] es d = some SignedElements.none
+content (tag ∷ tags) es d = joined (find tag es) (content tags es d) d
+
+-- "Something signed is in fragments when an undefined OB stands in the signed content, even one with no fragment." (In fragments is a term of 01.)
+unfoldable mutual
+  pub inFragments : SignedElement → Bool
+  inFragments (SignedElement.value tag vr bytes) = false
+  inFragments (SignedElement.sequence tag items) = itemsInFragments items
+  inFragments (SignedElement.fragments tag rows) = true
+
+  pub someInFragments : SignedElements → Bool
+  someInFragments SignedElements.none = false
+  someInFragments (SignedElements.and e rest) = inFragments e || someInFragments rest
+
+  pub itemsInFragments : SignedItems → Bool
+  itemsInFragments SignedItems.last = false
+  itemsInFragments (SignedItems.item elements rest) = someInFragments elements || itemsInFragments rest

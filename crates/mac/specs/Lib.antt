@@ -1,0 +1,7 @@
+pub mod TagList
+pub mod Content
+pub mod Stream
+pub mod ListMode
+pub mod Injectivity
+pub mod Theorems
+pub mod Examples

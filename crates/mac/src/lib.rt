@@ -1,0 +1,2 @@
+// The MAC stream of DICOM C.12.1.1.3: the tag list, the stream, list mode.
+pub mod verdict;
