@@ -11,5 +11,7 @@ pub mod Injectivity
 pub mod Lengths
 pub mod Numbers
 pub mod Verdicts
+pub mod TextSteps
+pub mod FrameSteps
 pub mod Theorems
 pub mod Examples
