@@ -13,5 +13,7 @@ pub mod StreamLength
 pub mod NeverLonger
 pub mod Answers
 pub mod Verdicts
+pub mod TextSteps
+pub mod FrameSteps
 pub mod Theorems
 pub mod Examples

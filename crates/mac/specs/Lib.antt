@@ -2,6 +2,9 @@ pub mod TagList
 pub mod Content
 pub mod Stream
 pub mod ListMode
+pub mod Text
+pub mod Frame
+pub mod Wrote
 pub mod Injectivity
 pub mod Theorems
 pub mod Examples
