@@ -6,7 +6,7 @@ use mathlib.Core.List.{List, [], _∷_, _++_}
 use native.Mathlib.Omega.{arith}
 use lib.ListN.{length}
 use Rattle.dataset.specs.Bytes.{num16, num32, tagAt, vrAt, between}
-use Rattle.dataset.specs.If.{if_then_else_}
+use Rattle.answer.specs.If.{if_then_else_}
 use Rattle.dataset.specs.Vr.{SQ, OB, shortForm, longForm, oneOf, formOf}
 use Rattle.dataset.specs.Header.{itemTag}
 use Rattle.dataset.specs.Tree.{Span, Element, Elements, Items, tagOf}

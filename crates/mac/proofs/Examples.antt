@@ -1,11 +1,10 @@
 -- The starred examples, all at once: both lists are computed. Assumes nothing.
 use mathlib.Core.Path.{refl}
-use Rattle.answer.specs.If as answer
+use Rattle.answer.specs.If.{if_then_else_}
 use Rattle.answer.specs.Answer.{_orElse_}
-use Rattle.dataset.specs.If as dataset
 use Rattle.dataset.specs.Bytes.{num16, num32, tagAt, vrAt, between}
 use Rattle.dataset.specs.Vr.{formOf, oneOf}
-use Rattle.dataset.specs.Header.{endsAt, closedBy, valueBy, longAt, byForm, vrOnAt, elementAt, itemBy, itemAt}
+use Rattle.dataset.specs.Header.{endsAt, closedBy, badLength, tooDeep, undefinedBy, definedBy, valueBy, longAt, byForm, vrOnAt, elementAt, itemBy, itemAt}
 use Rattle.dataset.specs.Reading.{byHeader, byOne, byItem, byFragment, fragmentsBy, elementsBy, elementsAt, dataSet}
 use Rattle.dataset.specs.Lookup.{find}
 use Rattle.mac.specs.TagList.{tagsIn, barred, badSize, ascending, unbarred, listAnswer}
@@ -15,5 +14,5 @@ use Rattle.mac.specs.ListMode.{holdsUN, elementAnswer, tagsAnswer, write
 use Rattle.mac.specs.Examples.{examples, ExamplesHold}
 
 pub examples-hold : ExamplesHold
-unfolding examples answer outputAfter stream contentOf _orElse_ answer.if_then_else_ listAnswer badSize ascending unbarred barred tagsIn tagsAnswer elementAnswer holdsUN writesUN metInSequence content signed fragmentBytes listedStream streamOf fragmentsStream find dataSet elementsAt elementsBy fragmentsBy byHeader byOne byItem byFragment elementAt vrOnAt byForm longAt valueBy itemAt itemBy endsAt closedBy dataset.if_then_else_ formOf oneOf num16 num32 tagAt vrAt between
+unfolding examples answer outputAfter stream contentOf _orElse_ if_then_else_ listAnswer badSize ascending unbarred barred tagsIn tagsAnswer elementAnswer holdsUN writesUN metInSequence content signed fragmentBytes listedStream streamOf fragmentsStream find dataSet elementsAt elementsBy fragmentsBy byHeader byOne byItem byFragment elementAt vrOnAt byForm longAt badLength tooDeep undefinedBy definedBy valueBy itemAt itemBy endsAt closedBy formOf oneOf num16 num32 tagAt vrAt between
 examples-hold = refl

@@ -8,7 +8,7 @@ use mathlib.Core.Option as Opt
 use native.Mathlib.Omega.{arith}
 use lib.Dec.{eqb}
 use borrow.Author.Tests.{eqb-true, ne-eqb}
-use Rattle.dataset.specs.If.{if_then_else_}
+use Rattle.answer.specs.If.{if_then_else_}
 use Rattle.dataset.specs.Tree.{Element, Elements, tagOf}
 use Rattle.dataset.specs.Order.{ElementLies, ElementsLie}
 use Rattle.dataset.specs.Lookup.{find}

@@ -11,7 +11,8 @@ use Rattle.answer.specs.declared.Answer.{Answer}
 use Rattle.answer.specs.If.{if_then_else_}
 use Rattle.answer.specs.Answer.{accepted}
 use Rattle.dataset.proofs.Guarantees.{DataSetIs, data-set-read}
-use Rattle.digest.specs.Message.{sha256, digestOf}
+use Rattle.digest.specs.Message.{digestOf}
+use Rattle.digest.specs.Sha256.{sha256}
 use Rattle.mac.specs.TagList.{tagsIn}
 use Rattle.mac.specs.Content.{SignedElements}
 use Rattle.mac.specs.ListMode.{Call, tree, contentOf, stream, answer, isAccepted, compared, verdictOf, streamCall, checkCall, Streamed, CheckedAs}

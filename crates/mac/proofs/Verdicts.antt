@@ -8,7 +8,8 @@ use mathlib.Core.Option.{Option, some}
 use lib.Dec.{eqb}
 use borrow.Author.Tests.{eqb-true, eq-eqb}
 use Rattle.answer.specs.If.{if_then_else_}
-use Rattle.digest.specs.Message.{sha256, digestOf}
+use Rattle.digest.specs.Message.{digestOf}
+use Rattle.digest.specs.Sha256.{sha256}
 use Rattle.mac.specs.ListMode.{Call, stream, isAccepted, sameBytes, compared, verdictOf}
 use Rattle.mac.specs.declared.verdict.Verdict.{Verdict}
 use Rattle.mac.specs.declared.verdict.Verdict.the-variants as verdict

@@ -15,7 +15,8 @@ use Rattle.dataset.specs.Vr.{UN}
 use Rattle.dataset.specs.Tree.{Element, Elements, Items, vrOf}
 use Rattle.dataset.specs.Reading.{Reading, sizeLimit, dataSet, answerOf}
 use Rattle.dataset.specs.Lookup.{find}
-use Rattle.digest.specs.Message.{sha256, digestOf}
+use Rattle.digest.specs.Message.{digestOf}
+use Rattle.digest.specs.Sha256.{sha256}
 use Rattle.mac.specs.TagList.{tagsIn, listAnswer}
 use Rattle.mac.specs.Content.{SignedElement, SignedElements, SignedItems, content}
 use Rattle.mac.specs.Stream.{listedStream}

@@ -8,7 +8,8 @@ use mathlib.Core.List.{List}
 use mathlib.Core.Option.{some}
 use lib.ListN.{length, take, drop}
 use Rattle.answer.specs.Answer.{accepted}
-use Rattle.digest.specs.Message.{sha256, digestOf}
+use Rattle.digest.specs.Message.{digestOf}
+use Rattle.digest.specs.Sha256.{sha256}
 use Rattle.mac.specs.TagList.{listAnswer}
 use Rattle.mac.specs.ListMode.{Call, stream, answer, isAccepted, outputAfter, verdictOf}
 use Rattle.mac.specs.Injectivity.{Accepted}
