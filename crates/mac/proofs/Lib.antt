@@ -1,1 +1,2 @@
 pub mod TagListSteps
+pub mod Runs

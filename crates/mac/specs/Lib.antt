@@ -3,3 +3,4 @@ pub mod Content
 pub mod Stream
 pub mod ListMode
 pub mod Injectivity
+pub mod Writer
