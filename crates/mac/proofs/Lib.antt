@@ -1,2 +1,4 @@
 pub mod TagListSteps
 pub mod Runs
+pub mod Walks
+pub mod FragmentsSteps

@@ -8,13 +8,13 @@ use dataset::header::ItemHeader;
 use dataset::vr;
 ghost use mathlib.Core.Path.{_≡_};
 ghost use mathlib.Core.Bool.{_||_};
-ghost use mathlib.Core.List.{List, [], _∷_};
+ghost use mathlib.Core.List.{List, [], _∷_, _++_};
 ghost use Prim.Native.Nat.{_+_, _<_, _≤_};
 ghost use lib.ListN.{length};
 ghost use lib.Seq.{sets};
 ghost use Rattle.dataset.specs.Bytes.{between};
 ghost use Rattle.dataset.specs.Reading.{explicit, elementsAt, itemsAt, fragmentsAt, oneAt};
-ghost use Rattle.mac.specs.Stream.{elementsStream, itemsStream, fragmentsStream};
+ghost use Rattle.mac.specs.Stream.{itemMark, elementsStream, itemsStream, fragmentsStream};
 ghost use Rattle.mac.specs.ListMode.{elementsHoldUN, itemsHoldUN};
 ghost use Rattle.mac.specs.Writer.{keeps, keepsHeader, every, walked, noneUnknown, oneStream, oneWalked, Walk, byHeaderAt, Stands, holdingOf, withOffset};
 
@@ -86,4 +86,51 @@ fn mark(out: &mut [u8], to: usize, third: u8)
 {
     let bytes = [0xFE, 0xFF, third, 0xE0];
     copy(&bytes, 0, 4, out, to);
+}
+
+// Writes an item tag and the bytes of a fragment.
+fn write_fragment(d: &[u8], start: usize, end: usize, out: &mut [u8], to: usize)
+    requires { ⌜ (to + 4 ≤ start) × (start ≤ end) × (end ≤ length (now d)) ⌝ }
+    ensures { λ _. ⌜ now (out .exit) ≡ sets (now (out .entry)) to (itemMark ++ between (now (d .entry)) start end) ⌝ }
+{
+    mark(out, to, 0x00);
+    copy(d, start, end, out, to + 4);
+}
+
+// Writes the fragments from `from` on, and the sequence delimiter, from `onto` on.
+fn write_fragments(
+    d: &[u8],
+    left: u32,
+    stop: usize,
+    from: usize,
+    out: &mut [u8],
+    onto: usize,
+) -> Written
+    requires { ⌜ (onto + 4 ≤ from) × (from ≤ stop) × (stop ≤ length (now d)) ⌝ }
+    ensures { λ r. ⌜ Walk (walked noneUnknown fragmentsStream) fragmentsStream (fragmentsAt explicit (now (d .entry)) left stop from) (now (d .entry)) onto r (now (out .entry)) (now (out .exit)) ⌝ }
+{
+    let mut at = from;
+    let mut to = onto;
+    loop {
+        match header::item_header(d, false, true, stop, at) {
+            ItemHeader::Refused(number) => return Written::Refused(Answer::refused(number, at)),
+            ItemHeader::End(next) => {
+                mark(out, to, 0xDD);
+                return Written::Past {
+                    unknown: false,
+                    next,
+                    to: to + 4,
+                };
+            }
+            ItemHeader::Item {
+                start,
+                end,
+                delimited: _,
+            } => {
+                write_fragment(d, start, end, out, to);
+                to = to + 4 + (end - start);
+                at = end;
+            }
+        }
+    }
 }
