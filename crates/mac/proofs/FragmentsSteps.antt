@@ -20,13 +20,13 @@ use Rattle.dataset.proofs.Unfolding.{fragments-are}
 use Rattle.mac.specs.Stream.{itemMark, endMark, fragmentsStream}
 use Rattle.mac.specs.Writer.{walked, noneUnknown, Walk}
 use Rattle.mac.specs.declared.writer.Written.the-variants as written
-use Rattle.mac.proofs.Runs.{length-between, sets-append}
+use Rattle.mac.proofs.Runs.{length-between, two-runs}
 use Rattle.mac.proofs.Walks.{Front, Going, start, go-on, stop-at, done}
 
 -- an item tag and the bytes of a fragment
 pub fragment-run : (d out ys zs : List ℕ) (to start end : ℕ) → ys ≡ sets out to itemMark → zs ≡ sets ys (to + 4) (between d start end)
     → zs ≡ sets out to (itemMark ++ between d start end)
-fragment-run d out ys zs to start end y z = z ∙ rw y (sym (sets-append out to itemMark (between d start end)))
+fragment-run d out ys zs to start end y z = two-runs out itemMark (between d start end) to 4 ys zs refl y z
 
 pub record FragmentsLoop (d : List ℕ) (left stop from : ℕ) (xs₀ : List ℕ) (to₀ : ℕ) (xs : List ℕ) (at to : ℕ) : Type 0 where
   pub inside : at ≤ stop

@@ -1,4 +1,10 @@
 pub mod TagListSteps
 pub mod Runs
+pub mod Helpers
+pub mod StreamLength
 pub mod Walks
 pub mod FragmentsSteps
+pub mod ElementSteps
+pub mod OneWalks
+pub mod ElementsSteps
+pub mod ItemsSteps

@@ -17,6 +17,10 @@ pub sets-append : (l : List ℕ) (i : ℕ) (xs ys : List ℕ) → sets l i (xs +
 sets-append l i [] ys = ap (λ (k : ℕ). sets l k ys) (sym (add-zero i))
 sets-append l i (x ∷ xs) ys = sets-append (set l i x) (suc i) xs ys ∙ ap (λ (k : ℕ). sets (sets (set l i x) (suc i) xs) k ys) (omega arith)
 
+-- two runs, one after the other
+pub two-runs : (l xs ys : List ℕ) (i n : ℕ) (first second : List ℕ) → length xs ≡ n → first ≡ sets l i xs → second ≡ sets first (i + n) ys → second ≡ sets l i (xs ++ ys)
+two-runs l xs ys i n first second e f g = g ∙ rw (f, ← e) (sym (sets-append l i xs ys))
+
 sets-past : (l : List ℕ) (i : ℕ) (xs : List ℕ) → length l ≤ i → sets l i xs ≡ l
 sets-past l i [] h = refl
 sets-past l i (x ∷ xs) h = rw (set-out l i x h) (sets-past l (suc i) xs (omega arith))

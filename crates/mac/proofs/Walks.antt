@@ -18,7 +18,7 @@ unfoldable pub withFound : Bool → Written → Written
 withFound found (written.Refused f) = written.Refused f
 withFound found (written.Past unknown next to) = written.Past (found || unknown) next to
 
-or-assoc : (a b c : Bool) → ((a || b) || c) ≡ (a || (b || c))
+pub or-assoc : (a b c : Bool) → ((a || b) || c) ≡ (a || (b || c))
 or-assoc true b c = refl
 or-assoc false b c = refl
 

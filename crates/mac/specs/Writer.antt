@@ -26,13 +26,13 @@ use Rattle.mac.specs.declared.writer.OneWritten.the-variants as one
 
 -- ---- which elements are kept
 
-unfoldable pub keeps : Keep → (tag : ℕ) → Bool
+abbrev pub keeps : Keep → (tag : ℕ) → Bool
 keeps keep.Unbarred tag = not (barred tag)
 keeps (keep.Only wanted) tag = eqb tag wanted
 keeps keep.Nothing tag = false
 
 -- by the header of an element; where there is no element nothing is kept
-unfoldable pub keepsHeader : Keep → ElementHeader → Bool
+abbrev pub keepsHeader : Keep → ElementHeader → Bool
 keepsHeader k (header.Refused number) = false
 keepsHeader k (header.End next) = false
 keepsHeader k (header.Value tag vr start end) = keeps k tag
@@ -87,12 +87,12 @@ pub record Stands (d : List ℕ) (left stop at : ℕ) (h : ElementHeader) : Type
   pub is : h ≡ elementAt d delimited left stop at least
 
 -- an element that holds items or fragments, by what the walk over these answers
-unfoldable pub holdingOf : (tag : ℕ) → Written → OneWritten
+abbrev pub holdingOf : (tag : ℕ) → Written → OneWritten
 holdingOf tag (written.Refused f) = one.Refused f
 holdingOf tag (written.Past unknown next to) = one.Element tag false unknown next to
 
 -- an element that is not kept: the offset in the stream stays
-unfoldable pub withOffset : OneWritten → (to : ℕ) → OneWritten
+abbrev pub withOffset : OneWritten → (to : ℕ) → OneWritten
 withOffset (one.Refused f) to = one.Refused f
 withOffset (one.End next) to = one.End next
 withOffset (one.Element tag unknown holds next past) to = one.Element tag unknown holds next to
