@@ -8,3 +8,7 @@ pub mod ElementSteps
 pub mod OneWalks
 pub mod ElementsSteps
 pub mod ItemsSteps
+pub mod MergeSteps
+pub mod Finding
+pub mod Merge
+pub mod ListSteps

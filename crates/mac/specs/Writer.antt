@@ -4,19 +4,22 @@
 use Prim.Native.Nat.{ℕ, _+_}
 use mathlib.Core.Path.{_≡_}
 use mathlib.Core.Bool.{Bool, true, false, not, _||_}
-use mathlib.Core.List.{List, []}
-use lib.Dec.{eqb}
+use mathlib.Core.List.{List, [], _∷_}
+use lib.Dec.{eqb, ltb}
 use lib.ListN.{length}
 use lib.Seq.{sets}
+use Rattle.answer.specs.declared.Answer.{Answer}
 use Rattle.answer.specs.If.{if_then_else_}
+use Rattle.answer.specs.Answer.{accepted, refused, _orElse_}
 use Rattle.dataset.specs.Header.{elementAt}
 use Rattle.dataset.specs.Tree.{Span, Element, Elements, Items, tagOf}
-use Rattle.dataset.specs.Reading.{Reading, fault, read, One, ended, element, explicit, refusal, byHeader, itemsAt, fragmentsAt}
+use Rattle.dataset.specs.Reading.{Reading, fault, read, One, ended, element, explicit, refusal, byHeader, elementsAt, itemsAt, fragmentsAt, levels}
 use Rattle.dataset.specs.declared.header.ElementHeader.{ElementHeader}
 use Rattle.dataset.specs.declared.header.ElementHeader.the-variants as header
-use Rattle.mac.specs.TagList.{barred}
-use Rattle.mac.specs.Stream.{streamOf}
-use Rattle.mac.specs.ListMode.{isUN, holdsUN}
+use Rattle.mac.specs.TagList.{barred, tagsIn}
+use Rattle.mac.specs.Stream.{streamOf, listedStream}
+use Rattle.mac.specs.ListMode.{isUN, holdsUN, tagsAnswer}
+use Rattle.mac.specs.declared.list_mode.Listed.{Listed}
 use Rattle.mac.specs.declared.writer.Keep.{Keep}
 use Rattle.mac.specs.declared.writer.Keep.the-variants as keep
 use Rattle.mac.specs.declared.writer.Written.{Written}
@@ -96,3 +99,45 @@ abbrev pub withOffset : OneWritten → (to : ℕ) → OneWritten
 withOffset (one.Refused f) to = one.Refused f
 withOffset (one.End next) to = one.End next
 withOffset (one.Element tag unknown holds next past) to = one.Element tag unknown holds next to
+
+-- ---- the walk over list and top level
+
+-- the answer by the reading of the top level: its fault; or else what was found before, or else the first of 13, 14, 15 for the tags from `index` on, or else the
+-- length of the stream
+unfoldable pub listedAnswer : (found : Answer) (index : ℕ) (tags d : List ℕ) → Reading Elements → Answer
+listedAnswer found index tags d (fault f) = f
+listedAnswer found index tags d (read es next) = found orElse tagsAnswer index tags es orElse accepted (found .length + length (listedStream tags es d))
+
+-- the output before and after: where the answer is accepted, the stream of these tags is written after that of the tags before them
+unfoldable pub ListedLeaves : (found : Answer) (index : ℕ) (tags d : List ℕ) → Reading Elements → (before after : List ℕ) → Type 0
+ListedLeaves found index tags d (fault f) before after = Unit {0}
+ListedLeaves found index tags d (read es next) before after =
+    listedAnswer found index tags d (read es next) .number ≡ 0 → after ≡ sets before (found .length) (listedStream tags es d)
+
+pub record ListWalk (list d : List ℕ) (r : Answer) (before after : List ℕ) : Type 0 where
+  pub answers : r ≡ listedAnswer (accepted 0) 0 (tagsIn list) d (elementsAt explicit d false levels (length d) 0 0)
+  pub output : ListedLeaves (accepted 0) 0 (tagsIn list) d (elementsAt explicit d false levels (length d) 0 0) before after
+
+-- the element that is wanted next, by the tags that are left
+unfoldable pub wantedOf : (tags : List ℕ) → Keep
+wantedOf [] = keep.Nothing
+wantedOf (wanted ∷ tags) = keep.Only wanted
+
+-- a refusal: no tag of the `count` tags is wanted any more
+abbrev pub stoppedOf : (count number index : ℕ) → Listed
+stoppedOf count number index = record { index = count; answer = refused number index }
+
+-- what is found after one element more, by the tags that were left
+unfoldable pub mergedOf : (count : ℕ) (tags : List ℕ) → Listed → (tag : ℕ) (unknown holds : Bool) (to : ℕ) → Listed
+mergedOf count [] s tag unknown holds to = s
+mergedOf count (wanted ∷ tags) s tag unknown holds to =
+    if ltb tag wanted then s else
+    if ltb wanted tag then stoppedOf count 13 (s .index) else
+    if unknown then stoppedOf count 14 (s .index) else
+    if holds then stoppedOf count 15 (s .index) else
+    record { index = s .index + 1; answer = accepted to }
+
+-- what is found at the end of the data set
+unfoldable pub endedOf : (tags : List ℕ) → Listed → Answer
+endedOf [] s = s .answer
+endedOf (wanted ∷ tags) s = refused 13 (s .index)
