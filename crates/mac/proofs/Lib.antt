@@ -12,3 +12,4 @@ pub mod MergeSteps
 pub mod Finding
 pub mod Merge
 pub mod ListSteps
+pub mod WrittenUnknown

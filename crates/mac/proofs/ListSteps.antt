@@ -1,5 +1,5 @@
 -- What one turn of the loop of `walk_list` does, with the facts of the place as premises. Assumes nothing.
-use Prim.Native.Nat.{ℕ, _+_, _-_, _*_, _/_, _≤_, _<_}
+use Prim.Native.Nat.{ℕ, suc, _+_, _-_, _*_, _/_, _≤_, _<_}
 use mathlib.Core.Path.{_≡_, refl, sym, ap, _∙_, subst}
 use mathlib.Core.Bool.{Bool, true, false, true≢false}
 use mathlib.Core.List.{List, [], _∷_}
@@ -15,6 +15,8 @@ use Rattle.dataset.specs.Tree.{Element, Elements, none, and, tagOf}
 use Rattle.dataset.specs.Order.{ElementsLie}
 use Rattle.dataset.specs.Reading.{Reading, fault, read, _>>=_, One, element, explicit, byOne, elementsAt, oneAt, levels}
 use Rattle.dataset.specs.Lookup.{find}
+use Rattle.dataset.proofs.Bounds.{explicit-bounded}
+use Rattle.dataset.proofs.Unfolding.{Within, elements-within}
 use Rattle.dataset.proofs.Guarantees.{holds-read, ElementsIn, elements-read}
 use Rattle.mac.specs.TagList.{tagsIn, ascending}
 use Rattle.mac.specs.Stream.{streamOf, listedStream}
@@ -171,14 +173,26 @@ turned l d xs ys at next least past c s s′ e tag unknown holds q i a b m y f g
     let t = turn l d xs ys at next least past c s s′ e q i (omega arith) (omega (arith, i .below)) m y (rw f lie) (from l (s .index)) refl k (rw (f, g, h) z) in
     (t .on, rw f at (t .state))
 
+-- a fault has length 0
+fault-length : (d : List ℕ) (at least : ℕ) (f : Answer) → at ≤ length d → elementsAt explicit d false levels (length d) at least ≡ fault f → f .length ≡ 0
+unfolding elementsAt
+fault-length d at least f h e =
+    let w : Within {A = Elements} at (length d) (fault f) = rw e at (elements-within explicit explicit-bounded (suc (length d - at)) d false levels (length d) at least h (omega arith)) in
+    w .nothing
+
 -- ---- a turn of the loop: r is what the walk over one element answers, and ys what it leaves
 module _ (l d xs₀ xs : List ℕ) (at least : ℕ) (s : Listed) (i : ListLoop l d xs₀ xs at least s) (c : Keep) (k : c ≡ wantedOf (from l (s .index))) (r : OneWritten) (ys : List ℕ)
     (w : Walk (oneWalked (keeps c)) (oneStream (keeps c)) (oneAt explicit d false levels (length d) at least) d (s .answer .length) r xs ys) where
+  ended-length : (tags : List ℕ) → endedOf tags s .length ≤ at
+  unfolding endedOf
+  ended-length [] = i .below
+  ended-length (wanted ∷ tags) = omega arith
+
   pub list-refused : (f : Answer) → r ≡ one.Refused f → ListWalk l d f xs₀ ys
   unfolding listedAnswer ListedLeaves
   list-refused f q =
       let e = walk.one-fault (keeps c) d false levels (length d) at least (s .answer .length) r xs ys (i .inside) w f q in
-      record { answers = sym (i .on .answers ∙ rw e); output = i .on .output ys (rw e tt) }
+      record { answers = sym (i .on .answers ∙ rw e); output = i .on .output ys (rw e tt); short = omega (arith, fault-length d at least f (i .inside) e) }
 
   ended-is : (tags : List ℕ) → from l (s .index) ≡ tags → (next : ℕ) → ys ≡ xs
       → (endedOf tags s ≡ listedAnswer (s .answer) (s .index) tags d (read none next)) × ListedLeaves (s .answer) (s .index) tags d (read none next) xs ys
@@ -199,7 +213,7 @@ module _ (l d xs₀ xs : List ℕ) (at least : ℕ) (s : Listed) (i : ListLoop l
       let e = walk.one-end (keeps c) d false levels (length d) at least (s .answer .length) r xs ys (i .inside) w next q in
       let y = walk.end-output (keeps c) d false levels (length d) at least (s .answer .length) r xs ys (i .inside) w next q in
       let g = ended-is (from l (s .index)) refl next y in
-      record { answers = z ∙ g .0 ∙ sym (i .on .answers ∙ rw e); output = i .on .output ys (rw e (g .1)) }
+      record { answers = z ∙ g .0 ∙ sym (i .on .answers ∙ rw e); output = i .on .output ys (rw e (g .1)); short = rw z (omega (arith, ended-length (from l (s .index)), i .inside)) }
 
   module _ (tag : ℕ) (unknown holds : Bool) (next past : ℕ) (q : r ≡ one.Element tag unknown holds next past) where
     pub list-less : length d - next < length d - at
