@@ -1,5 +1,5 @@
-pub mod TagListSteps
 pub mod Runs
+pub mod TagListSteps
 pub mod Helpers
 pub mod StreamLength
 pub mod Walks
@@ -12,4 +12,7 @@ pub mod MergeSteps
 pub mod Finding
 pub mod Merge
 pub mod ListSteps
+pub mod Refusals
 pub mod WrittenUnknown
+pub mod ListModeSteps
+pub mod CheckSteps

@@ -2,12 +2,16 @@
 -- Assumes nothing.
 use Prim.Native.Nat.{ℕ, zero, suc, _+_, _-_, _≤_, _<_}
 use native.Mathlib.Nat.{add-zero}
+use native.Mathlib.Numerals.{add-one}
 use native.Mathlib.Omega.{arith}
 use mathlib.Core.Path.{_≡_, refl, sym, ap, _∙_}
 use mathlib.Core.List.{List, [], _∷_, _++_}
 use lib.ListN.{length, take, drop, getD, set, length-drop, length-set}
-use lib.Seq.{sets, length-sets, set-out, take-suc, getD-drop, length-take-le}
+use lib.Seq.{drop-cons, sets, length-sets, set-out, take-suc, getD-drop, length-take-le}
 use Rattle.dataset.specs.Bytes.{between}
+
+pub drop-one : (l : List ℕ) (i : ℕ) → i < length l → drop i l ≡ getD l i 0 ∷ drop (i + 1) l
+drop-one l i h = rw (add-one, drop-cons l i 0)
 
 pub length-between : (d : List ℕ) (from to : ℕ) → from ≤ to → to ≤ length d → length (between d from to) ≡ to - from
 unfolding between

@@ -5,21 +5,17 @@ use mathlib.Core.Path.{_≡_, refl, sym, ap, _∙_}
 use mathlib.Core.Bool.{Bool, true, false}
 use mathlib.Core.List.{List, [], _∷_}
 use native.Mathlib.Omega.{arith}
-use native.Mathlib.Numerals.{add-one}
 use lib.ListN.{length, drop, getD, length-drop}
-use lib.Seq.{drop-cons}
 use lib.Dec.{ltb, eqb}
 use borrow.Author.Tests.{lt-ltb, le-ltb, eq-eqb, ne-eqb}
 use Rattle.answer.specs.declared.Answer.{Answer}
 use Rattle.answer.specs.If.{if_then_else_}
 use Rattle.answer.specs.Answer.{accepted, refused, _orElse_}
 use Rattle.dataset.specs.Bytes.{num16, tagAt}
+use Rattle.mac.proofs.Runs.{drop-one}
 use Rattle.mac.specs.TagList.{barred, tagsIn, badSize, ascending, unbarred, listAnswer}
 
 -- ---- the tags from an index on
-drop-one : (l : List ℕ) (i : ℕ) → i < length l → drop i l ≡ getD l i 0 ∷ drop (i + 1) l
-drop-one l i h = rw (add-one, drop-cons l i 0)
-
 drop-four : (l : List ℕ) (a : ℕ) → a + 4 ≤ length l
     → drop a l ≡ getD l a 0 ∷ getD l (a + 1) 0 ∷ getD l (a + 2) 0 ∷ getD l (a + 2 + 1) 0 ∷ drop (a + 4) l
 drop-four l a h =

@@ -6,8 +6,6 @@ use mathlib.Core.List.{List, [], _∷_}
 use mathlib.Core.Option.{Option, some}
 use mathlib.Core.Option as Opt
 use native.Mathlib.Omega.{arith}
-use lib.Dec.{eqb}
-use borrow.Author.Tests.{eq-eqb, eqb-true}
 use Rattle.answer.specs.declared.Answer.{Answer}
 use Rattle.answer.specs.If.{if_then_else_}
 use Rattle.answer.specs.Answer.{accepted, refused, _orElse_}
@@ -16,6 +14,7 @@ use Rattle.dataset.specs.Lookup.{find}
 use Rattle.mac.specs.TagList.{barred}
 use Rattle.mac.specs.Content.{SignedElement, SignedElements, SignedItems, unlessBarred, signed, signedElements, signedItems, joined, content}
 use Rattle.mac.specs.ListMode.{isUN, holdsUN, elementsHoldUN, itemsHoldUN, elementAnswer, tagsAnswer, writesUN, elementsWriteUN, itemsWriteUN, metInSequence, met}
+use Rattle.mac.proofs.Refusals.{both}
 
 neither : (a b : Bool) → (a || b) ≡ false → (a ≡ false) × (b ≡ false)
 neither true b e = absurd (true≢false e)
@@ -46,19 +45,6 @@ mutual
   items-write (item at es is) d h =
       let a = neither (elementsHoldUN es) (itemsHoldUN is) h in
       rw (elements-write es d (a .0), items-write is d (a .1))
-
--- an answer that is accepted is accepted in each part
-pub record Both (a b : Answer) : Type 0 where
-  pub first : a .number ≡ 0
-  pub second : b .number ≡ 0
-
-pub both : (a b : Answer) → (a orElse b) .number ≡ 0 → Both a b
-unfolding _orElse_ if_then_else_
-both a b h = go (eqb (a .number) 0) refl h
-  where
-    go : (x : Bool) → eqb (a .number) 0 ≡ x → (if x then b else a) .number ≡ 0 → Both a b
-    go true e q = record { first = eqb-true (a .number) 0 e; second = q }
-    go false e q = absurd (true≢false (sym (eq-eqb (a .number) 0 q) ∙ e))
 
 record Free (o : Option Element) : Type 0 where
   what : Element

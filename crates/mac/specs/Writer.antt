@@ -161,5 +161,6 @@ callFor list d out expected = record { list = list; set = d; room = length out; 
 
 pub record StreamedFor (list d out : List ℕ) (bad : Bool) (r : Answer) (after : List ℕ) : Type 0 where
   pub streamed : (expected : Option (List ℕ)) → badDigest expected ≡ bad → Streamed (callFor list d out expected) out r after
+  pub long : r .number ≡ 0 → r .length ≡ length (listedStream (tagsIn list) (tree d) d)
   pub room : r .number ≡ 0 → r .length ≤ length out
   pub small : r .number ≡ 0 → r .length ≤ sizeLimit

@@ -1,16 +1,21 @@
 // List mode: the stream of a bare tag list, and the check of its digest.
 use crate::tag_list;
+use crate::verdict::Checked;
+use crate::verdict::Verdict;
 use crate::writer;
 use crate::writer::Keep;
 use crate::writer::OneWritten;
 use answer::Answer;
 use dataset::reading;
+use digest::message;
 ghost use mathlib.Core.Path.{_≡_};
+ghost use mathlib.Core.Option.{some};
 ghost use Prim.Native.Nat.{_*_, _/_, _≤_};
 ghost use lib.ListN.{length, drop};
 ghost use Rattle.answer.specs.Answer as Spec;
 ghost use Rattle.mac.specs.TagList.{tagsIn, ascending};
-ghost use Rattle.mac.specs.Writer.{ListWalk, wantedOf, stoppedOf, mergedOf, endedOf};
+ghost use Rattle.mac.specs.ListMode.{sameBytes, compared, streamCall, checkCall, Streamed, CheckedAs};
+ghost use Rattle.mac.specs.Writer.{ListWalk, wantedOf, stoppedOf, mergedOf, endedOf, measuredAnswer, StreamedFor};
 
 // How far list and top level are merged: the index of the tag that is wanted next; and the first of 13, 14, 15, or the length of the
 // stream so far.
@@ -110,4 +115,88 @@ fn walk_list(list: &[u8], d: &[u8], out: &mut [u8]) -> Answer
             }
         }
     }
+}
+
+// The answer up to 15, or the length of the stream: the walk with an empty output.
+fn measured(list: &[u8], d: &[u8]) -> Answer
+    ensures { λ r. ⌜ r ≡ measuredAnswer (now (list .entry)) (now (d .entry)) ⌝ }
+{
+    if reading::SIZE_LIMIT < d.len() {
+        return Answer::refused(1, 0);
+    }
+    let answer = tag_list::list_answer(list);
+    if answer.number != 0 {
+        return answer;
+    }
+    let mut nothing = [0u8; 0];
+    walk_list(list, d, &mut nothing)
+}
+
+// The answer of a call, by whether its expected digest is not 32 bytes; where it is accepted the stream is written.
+fn stream_into(list: &[u8], d: &[u8], bad: bool, out: &mut [u8]) -> Answer
+    ensures { λ r. ⌜ StreamedFor (now (list .entry)) (now (d .entry)) (now (out .entry)) bad r (now (out .exit)) ⌝ }
+{
+    let answer = measured(list, d);
+    if answer.number != 0 {
+        return answer;
+    }
+    if bad {
+        return Answer::refused(9, 0);
+    }
+    if out.len() < answer.length {
+        return Answer::refused(16, 0);
+    }
+    walk_list(list, d, out)
+}
+
+// The stream of a list in a data set, into the output.
+pub fn list_stream(list: &[u8], d: &[u8], out: &mut [u8]) -> Answer
+    ensures { λ r. ⌜ Streamed (streamCall (now (list .entry)) (now (d .entry)) (now (out .entry))) (now (out .entry)) r (now (out .exit)) ⌝ }
+{
+    stream_into(list, d, false, out)
+}
+
+// Whether two lists of bytes are the same.
+fn same_bytes(a: &[u8], b: &[u8]) -> bool
+    ensures { λ r. ⌜ r ≡ sameBytes (now (a .entry)) (now (b .entry)) ⌝ }
+{
+    if a.len() != b.len() {
+        return false;
+    }
+    let mut i = 0;
+    while i < a.len() {
+        if a[i] != b[i] {
+            return false;
+        }
+        i += 1;
+    }
+    true
+}
+
+// What a check says of the digest of its stream.
+fn verdict_of(digest: &[u8], expected: &[u8]) -> Verdict
+    ensures { λ r. ⌜ r ≡ compared (some (now (expected .entry))) (now (digest .entry)) ⌝ }
+{
+    if same_bytes(digest, expected) {
+        return Verdict::Same;
+    }
+    Verdict::Differs
+}
+
+// The check of the stream's digest: the stream is written into the work buffer.
+pub fn list_check(list: &[u8], d: &[u8], expected: &[u8], work: &mut [u8]) -> Checked
+    ensures { λ r. ⌜ CheckedAs (checkCall (now (list .entry)) (now (d .entry)) (now (expected .entry)) (now (work .entry))) (now (work .entry)) r (now (work .exit)) ⌝ }
+{
+    let answer = stream_into(list, d, expected.len() != 32, work);
+    if answer.number != 0 {
+        return Checked {
+            answer,
+            verdict: Verdict::Neither,
+        };
+    }
+    let length = answer.length;
+    let hashed = message::sha256(&work[..length]);
+    let digest = hashed.digest;
+    let verdict = verdict_of(&digest, expected);
+    Checked { answer, verdict }
 }
