@@ -26,7 +26,8 @@ use Rattle.mac.specs.declared.writer.Keep.{Keep}
 use Rattle.mac.specs.declared.writer.Written.{Written}
 use Rattle.mac.specs.declared.writer.OneWritten.{OneWritten}
 use Rattle.mac.specs.declared.writer.OneWritten.the-variants as one
-use Rattle.mac.proofs.Runs.{length-between, sets-append}
+use Rattle.mac.proofs.Slices.{length-between}
+use Rattle.mac.proofs.Runs.{sets-append}
 
 -- ---- an element that holds what the reading p gives: its header's eight bytes, and then the stream of p
 pub record Holds {A : Type 0} (unknown : A → Bool) (stream : A → List ℕ → List ℕ) (d : List ℕ) (tag : ℕ) (bytes : List ℕ) (e : Element) (a : A) : Type 0 where

@@ -20,7 +20,8 @@ use Rattle.dataset.proofs.Unfolding.{fragments-are}
 use Rattle.mac.specs.Stream.{itemMark, endMark, fragmentsStream}
 use Rattle.mac.specs.Writer.{walked, noneUnknown, Walk}
 use Rattle.mac.specs.declared.writer.Written.the-variants as written
-use Rattle.mac.proofs.Runs.{length-between, two-runs}
+use Rattle.mac.proofs.Slices.{length-between}
+use Rattle.mac.proofs.Runs.{two-runs}
 use Rattle.mac.proofs.Walks.{Front, Going, start, go-on, stop-at, done}
 
 -- an item tag and the bytes of a fragment

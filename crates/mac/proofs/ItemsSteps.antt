@@ -23,7 +23,8 @@ use Rattle.mac.specs.ListMode.{elementsHoldUN, itemsHoldUN}
 use Rattle.mac.specs.Writer.{walked, Leaves, Walk}
 use Rattle.mac.specs.declared.writer.Written.{Written}
 use Rattle.mac.specs.declared.writer.Written.the-variants as written
-use Rattle.mac.proofs.Runs.{length-between, two-runs}
+use Rattle.mac.proofs.Slices.{length-between}
+use Rattle.mac.proofs.Runs.{two-runs}
 use Rattle.mac.proofs.StreamLength.{elements-length}
 use Rattle.mac.proofs.Walks.{Front, Going, start, go-on, stop-at, done}
 

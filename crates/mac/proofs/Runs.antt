@@ -9,13 +9,10 @@ use mathlib.Core.List.{List, [], _∷_, _++_}
 use lib.ListN.{length, take, drop, getD, set, length-drop, length-set}
 use lib.Seq.{drop-cons, sets, length-sets, set-out, take-suc, getD-drop, length-take-le}
 use Rattle.dataset.specs.Bytes.{between}
+use Rattle.mac.proofs.Slices.{length-between}
 
 pub drop-one : (l : List ℕ) (i : ℕ) → i < length l → drop i l ≡ getD l i 0 ∷ drop (i + 1) l
 drop-one l i h = rw (add-one, drop-cons l i 0)
-
-pub length-between : (d : List ℕ) (from to : ℕ) → from ≤ to → to ≤ length d → length (between d from to) ≡ to - from
-unfolding between
-length-between d from to h k = length-take-le (to - from) (drop from d) (simp length-drop (omega arith))
 
 pub sets-append : (l : List ℕ) (i : ℕ) (xs ys : List ℕ) → sets l i (xs ++ ys) ≡ sets (sets l i xs) (i + length xs) ys
 sets-append l i [] ys = ap (λ (k : ℕ). sets l k ys) (sym (add-zero i))
