@@ -4,7 +4,8 @@ pub mod Stream
 pub mod ListMode
 pub mod Text
 pub mod Frame
-pub mod Wrote
 pub mod Injectivity
 pub mod Theorems
 pub mod Examples
+pub mod Writer
+pub mod Wrote

@@ -1,4 +1,4 @@
-// The frame of the stream program.
+// The stream program, on slices: a frame of a list and a data set in, the text to print out.
 ghost use mathlib.Core.Path.{_≡_};
 ghost use Prim.Native.Nat.{_+_, _*_, _^_, _≤_};
 ghost use lib.ListN.{length};

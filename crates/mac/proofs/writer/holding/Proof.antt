@@ -1,0 +1,20 @@
+-- `holding` meets its contract. Assumes nothing.
+use Rattle.mac.proofs.Helpers as helpers
+use borrow.Author.Needs.{needs}
+use Rattle.mac.proofs.writer.holding.Statement.{statement}
+use Rattle.mac.proofs.writer.holding.Tie as tie
+
+enum-known-inside : tie.Need-enum-known-inside
+enum-known-inside c = search needs
+
+enum-known-inside-2 : tie.Need-enum-known-inside-2
+enum-known-inside-2 c = search needs
+
+returns : tie.Need-returns
+returns c = search helpers.holding-refused
+
+returns-2 : tie.Need-returns-2
+returns-2 c = search helpers.holding-past
+
+pub holding-spec : {M : Type 1} → statement M
+holding-spec = tie.close (tie.spec enum-known-inside enum-known-inside-2 returns returns-2)

@@ -1,0 +1,23 @@
+-- `write_fragment` meets its contract: each place by its law in FragmentsSteps. Assumes nothing.
+use Rattle.mac.proofs.FragmentsSteps as steps
+use borrow.Author.Needs.{needs}
+use Rattle.mac.proofs.writer.write_fragment.Statement.{statement}
+use Rattle.mac.proofs.writer.write_fragment.Tie as tie
+
+mark-requires : tie.Need-mark-requires
+mark-requires c κs = search needs
+
+add-copy : tie.Need-add-copy
+add-copy c = search needs
+
+copy-requires : tie.Need-copy-requires
+copy-requires c κs = search needs
+
+same-length : tie.Need-same-length
+same-length c = search needs
+
+returns : tie.Need-returns
+returns c = search steps.fragment-run
+
+pub write-fragment-spec : {M : Type 1} → statement M
+write-fragment-spec = tie.close (tie.spec mark-requires add-copy copy-requires same-length returns)

@@ -1,0 +1,115 @@
+// The tag list: its size, its order, and the barred tags.
+use answer::Answer;
+ghost use mathlib.Core.Path.{_≡_};
+ghost use Prim.Native.Nat.{_+_, _*_, _<_, _≤_};
+ghost use lib.ListN.{length};
+ghost use Rattle.dataset.specs.Bytes.{num16, tagAt};
+ghost use Rattle.mac.specs.TagList.{barred, tagsIn, badSize, ascending, unbarred, listAnswer};
+
+fn wide(b: u8) -> u32
+    ensures { λ r. ⌜ (r ≡ b) × (r < 256) ⌝ }
+{
+    b as u32
+}
+
+fn number16(list: &[u8], i: usize) -> u32
+    requires { ⌜ i + 2 ≤ length (now list) ⌝ }
+    ensures { λ r. ⌜ (r ≡ num16 (now (list .entry)) i) × (r < 65536) ⌝ }
+{
+    wide(list[i]) + 256 * wide(list[i + 1])
+}
+
+// The tag at an index of the list.
+pub(crate) fn tag_at(list: &[u8], index: usize) -> u32
+    requires { ⌜ 4 * index + 4 ≤ length (now list) ⌝ }
+    ensures { λ r. ⌜ r ≡ tagAt (now (list .entry)) (4 * index) ⌝ }
+{
+    let at = 4 * index;
+    number16(list, at) * 65536 + number16(list, at + 2)
+}
+
+// Whether a tag is barred.
+pub(crate) fn is_barred(tag: u32) -> bool
+    ensures { λ r. ⌜ r ≡ barred tag ⌝ }
+{
+    let group = tag / 65536;
+    if tag % 65536 == 0 {
+        return true;
+    }
+    if tag == 0x00080001 {
+        return true;
+    }
+    if group < 0x0008 {
+        return true;
+    }
+    if group == 0xFFFA {
+        return true;
+    }
+    if tag == 0x4FFE0001 {
+        return true;
+    }
+    if tag == 0xFFFCFFFC {
+        return true;
+    }
+    tag == 0xFFFEE00D
+}
+
+// Whether a list of so many bytes is refused.
+fn bad_size(bytes: usize) -> bool
+    ensures { λ r. ⌜ r ≡ badSize bytes ⌝ }
+{
+    if bytes == 0 {
+        return true;
+    }
+    if 4096 < bytes {
+        return true;
+    }
+    0 < bytes % 4
+}
+
+// The first tag that is not above the one before it.
+fn order_answer(list: &[u8]) -> Answer
+    ensures { λ r. ⌜ r ≡ ascending 0 0 (tagsIn (now (list .entry))) ⌝ }
+{
+    let count = list.len() / 4;
+    let mut index = 0;
+    let mut least: u64 = 0;
+    while index < count {
+        let tag = tag_at(list, index);
+        if (tag as u64) < least {
+            return Answer::refused(11, index);
+        }
+        least = tag as u64 + 1;
+        index += 1;
+    }
+    Answer::accepted(0)
+}
+
+// The first barred tag.
+fn barred_answer(list: &[u8]) -> Answer
+    ensures { λ r. ⌜ r ≡ unbarred 0 (tagsIn (now (list .entry))) ⌝ }
+{
+    let count = list.len() / 4;
+    let mut index = 0;
+    while index < count {
+        if is_barred(tag_at(list, index)) {
+            return Answer::refused(12, index);
+        }
+        index += 1;
+    }
+    Answer::accepted(0)
+}
+
+// The first fault of a tag list: 10, 11 over the whole list, 12 over the whole list.
+pub(crate) fn list_answer(list: &[u8]) -> Answer
+    ensures { λ r. ⌜ r ≡ listAnswer (now (list .entry)) ⌝ }
+{
+    if bad_size(list.len()) {
+        return Answer::refused(10, 0);
+    }
+    let order = order_answer(list);
+    if order.number != 0 {
+        return order;
+    }
+    barred_answer(list)
+}
