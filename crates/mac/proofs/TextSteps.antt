@@ -16,10 +16,7 @@ use Rattle.answer.specs.If.{if_then_else_}
 use Rattle.answer.specs.declared.Answer.{Answer}
 use Rattle.mac.specs.Text.{space, newline, digit, decimalBy, decimal, word, line, hex, isEmpty, lineEnd, hexFrom, hexLines}
 use Rattle.mac.specs.Wrote.{Wrote}
-
-sets-append : (l : List ℕ) (i : ℕ) (xs ys : List ℕ) → sets l i (xs ++ ys) ≡ sets (sets l i xs) (i + length xs) ys
-sets-append l i [] ys = ap (λ (k : ℕ). sets l k ys) (sym (add-zero i))
-sets-append l i (x ∷ xs) ys = sets-append (set l i x) (suc i) xs ys ∙ ap (λ (k : ℕ). sets (sets (set l i x) (suc i) xs) k ys) (omega arith)
+use Rattle.mac.proofs.Runs.{sets-append}
 
 -- one piece after another
 pub wrote-then : (text mid after : List ℕ) (at next r : ℕ) (xs ys : List ℕ) → Wrote text at xs next mid → Wrote mid next ys r after → Wrote text at (xs ++ ys) r after
@@ -105,6 +102,11 @@ unfolding line
 line-wrote text mid mid′ after at first second r a p q w =
     wrote-then text mid after at first r (word (a .number) space) (word (a .position) space ++ word (a .length) newline) p
     (wrote-then mid mid′ after first second r (word (a .position) space) (word (a .length) newline) q w)
+
+pub length-line : (a : Answer) → a .number < 2 ^ 64 → a .position < 2 ^ 64 → a .length < 2 ^ 64 → length (line a) ≤ 63
+unfolding line
+length-line a h k l =
+    simp length-append (omega (arith, length-word (a .number) space h, length-word (a .position) space k, length-word (a .length) newline l))
 
 -- ---- lines of hex
 pub hex-wrote : (text mid after : List ℕ) (at b high low : ℕ) → high ≡ digit (b / 16) → low ≡ digit (b % 16) → mid ≡ sets text at (high ∷ []) → after ≡ sets mid (at + 1) (low ∷ [])

@@ -1,8 +1,12 @@
 // The stream program, on slices: a frame of a list and a data set in, the text to print out.
+use crate::list_mode;
+use crate::text;
+use answer::Answer;
 ghost use mathlib.Core.Path.{_≡_};
 ghost use Prim.Native.Nat.{_+_, _*_, _^_, _≤_};
 ghost use lib.ListN.{length};
 ghost use Rattle.mac.specs.Frame as Spec;
+ghost use Rattle.mac.specs.Wrote.{Wrote, Holds};
 
 const INPUT_LIMIT: usize = 65536;
 
@@ -50,4 +54,35 @@ pub(crate) fn frame_at(s: &[u8]) -> Frame
         return Frame::Bad;
     }
     Frame::ListEnds(5 + list)
+}
+
+// The output room of list mode.
+fn output() -> [u8; 65536] {
+    [0u8; 65536]
+}
+
+// Runs list mode on the frame whose list ends at `end`, and writes what is to be printed.
+fn report(input: &[u8], end: usize, text: &mut [u8]) -> usize
+    requires { ⌜ Holds (now input) end ⌝ }
+    ensures { λ r. ⌜ Wrote (now (text .entry)) 0 (Spec.report (Spec.frameCall (now (input .entry)) end)) r (now (text .exit)) ⌝ }
+{
+    let mut out = output();
+    let from = end + 4;
+    let answer = list_mode::list_stream(&input[5..end], &input[from..], &mut out);
+    let next = text::put_line(text, 0, answer);
+    if answer.number != 0 {
+        return next;
+    }
+    let length = answer.length;
+    text::put_lines(text, next, &out[..length])
+}
+
+// What the stream program prints for its input, as far as it fits into the text; the number of bytes in all.
+pub fn print_frame(input: &[u8], text: &mut [u8]) -> usize
+    ensures { λ r. ⌜ Spec.Printed (now (input .entry)) (now (text .entry)) r (now (text .exit)) ⌝ }
+{
+    match frame_at(input) {
+        Frame::Bad => text::put_line(text, 0, Answer::refused(24, 0)),
+        Frame::ListEnds(end) => report(input, end, text),
+    }
 }
