@@ -1,91 +1,51 @@
 // The kinds of cases.
-use crate::bytes;
-use crate::bytes::Bytes;
+use crate::list_kinds;
 use crate::print;
+use crate::reading_kinds;
 use crate::words;
-use dataset::lookup;
-use dataset::reading;
 
-fn not_understood() {
-    print::text(b" ?\n");
-}
-
-fn print_reading(d: &[u8]) {
-    let a = reading::read(d);
-    print::number(a.number as u64);
-    print::number(a.position as u64);
-    print::text(b"\n");
-}
-
-// read DATA
-fn read_case(field: &[u8], room: &mut [u8]) {
-    match bytes::put(field, room) {
-        Bytes::Good(n) => print_reading(words::first(room, n)),
-        Bytes::Bad => not_understood(),
-    }
-}
-
-// A tag as eight hex digits, group first.
-enum Tag {
-    Good(u32),
-    Bad,
-}
-
-fn tag_of(field: &[u8]) -> Tag {
-    if field.len() != 8 {
-        return Tag::Bad;
-    }
-    let mut tag: u32 = 0;
-    let mut i = 0;
-    while i < 8 {
-        let v = bytes::digit_of(field[i]);
-        if 15 < v {
-            return Tag::Bad;
-        }
-        if 0xFFFFFFF < tag {
-            return Tag::Bad;
-        }
-        tag = tag * 16 + v as u32;
-        i += 1;
-    }
-    Tag::Good(tag)
-}
-
-fn yes_or_no(b: bool) {
-    if b {
-        print::text(b" yes");
-    } else {
-        print::text(b" no");
-    }
-}
-
-fn print_lookup(d: &[u8], tag: u32) {
-    let mut number: u8 = 0;
-    let mut position: usize = 0;
-    let mut present = false;
-    let part = lookup::lookup(d, tag, &mut number, &mut position, &mut present);
-    print::number(number as u64);
-    print::number(position as u64);
-    yes_or_no(present);
-    print::number(part.len() as u64);
-    print::hex(part);
-    print::text(b"\n");
-}
-
-// lookup TAG DATA
-fn lookup_case(tag_field: &[u8], field: &[u8], room: &mut [u8]) {
-    let Tag::Good(tag) = tag_of(tag_field) else {
-        not_understood();
+// The case of a kind with one argument.
+fn run_one(kind: &[u8], first: &[u8], data: &mut [u8], out: &mut [u8]) {
+    if check::same(kind, b"read") {
+        reading_kinds::read_case(first, data);
         return;
-    };
-    match bytes::put(field, room) {
-        Bytes::Good(n) => print_lookup(words::first(room, n), tag),
-        Bytes::Bad => not_understood(),
     }
+    if check::same(kind, b"frame") {
+        list_kinds::frame_case(first, data, out);
+        return;
+    }
+    print::not_understood();
+}
+
+// The case of a kind with two arguments or more; `rest` is the line from the second argument on.
+fn run_more(fields: usize, kind: &[u8], first: &[u8], rest: &[u8], data: &mut [u8], out: &mut [u8]) {
+    let third_at = words::next(rest, 0);
+    let fourth_at = words::next(rest, third_at);
+    let second = words::field(rest, 0);
+    let third = words::field(rest, third_at);
+    if fields == 4 {
+        if check::same(kind, b"lookup") {
+            reading_kinds::lookup_case(first, second, data);
+            return;
+        }
+    }
+    if fields == 5 {
+        if check::same(kind, b"list") {
+            list_kinds::list_case(first, second, third, data, out);
+            return;
+        }
+    }
+    if fields == 6 {
+        if check::same(kind, b"list-check") {
+            list_kinds::check_case(first, second, third, words::field(rest, fourth_at), data, out);
+            return;
+        }
+    }
+    print::not_understood();
 }
 
 // Runs the case of one line.
-pub(crate) fn run_case(line: &[u8], room: &mut [u8]) {
+pub(crate) fn run_case(line: &[u8], data: &mut [u8], out: &mut [u8]) {
     if line.len() == 0 {
         return;
     }
@@ -100,16 +60,8 @@ pub(crate) fn run_case(line: &[u8], room: &mut [u8]) {
     let kind = words::field(line, kind_at);
     let first = words::field(line, first_at);
     if fields == 3 {
-        if check::same(kind, b"read") {
-            read_case(first, room);
-            return;
-        }
+        run_one(kind, first, data, out);
+        return;
     }
-    if fields == 4 {
-        if check::same(kind, b"lookup") {
-            lookup_case(first, words::field(line, second_at), room);
-            return;
-        }
-    }
-    not_understood();
+    run_more(fields, kind, first, &line[second_at..], data, out);
 }

@@ -1,18 +1,23 @@
 // Runs the cases of standard input and prints a line for each. A case is a line `NAME KIND ARGS`, its fields parted by single
 // spaces; an empty line and one that starts with # print nothing; a line that is not understood prints `NAME ?`.
-//   NAME read DATA           prints NAME NUMBER POSITION
-//   NAME lookup TAG DATA     prints NAME NUMBER POSITION yes|no LENGTH HEX, without HEX where LENGTH is 0
+//   NAME read DATA                               prints NAME NUMBER POSITION
+//   NAME lookup TAG DATA                         prints NAME NUMBER POSITION yes|no LENGTH HEX, without HEX where LENGTH is 0
+//   NAME list ROOM LIST DATA                     prints NAME NUMBER POSITION LENGTH HEX, without HEX where LENGTH is 0
+//   NAME list-check ROOM EXPECTED LIST DATA      prints NAME NUMBER POSITION LENGTH neither|same|differs
+//   NAME frame INPUT                             prints NAME, a newline, and what the stream program prints for the input
 mod bytes;
 mod kinds;
+mod list_kinds;
 mod print;
+mod reading_kinds;
 mod words;
 
-// Runs each line of the text, with `room` for a case's bytes.
-fn run(text: &[u8], room: &mut [u8]) {
+// Runs each line of the text, with rooms for a case's data set and for its output.
+fn run(text: &[u8], data: &mut [u8], out: &mut [u8]) {
     let mut at = 0;
     while at < text.len() {
         let end = words::until(text, b'\n', at);
-        kinds::run_case(&text[at..end], room);
+        kinds::run_case(&text[at..end], data, out);
         if end == text.len() {
             return;
         }
@@ -20,14 +25,15 @@ fn run(text: &[u8], room: &mut [u8]) {
     }
 }
 
-// Reads the text of the cases and runs it, with room for a data set a little over the size.
-fn run_input(input: &mut [u8; 262144], room: &mut [u8; 1048640]) {
+// Reads the text of the cases and runs it, with rooms a little over the size of a data set.
+fn run_input(input: &mut [u8; 262144], data: &mut [u8; 1048640], out: &mut [u8; 1048640]) {
     let n = io::read_full(libc::STDIN_FILENO, input);
-    run(words::first(input, n), room);
+    run(words::first(input, n), data, out);
 }
 
 fn main() {
     let mut input = [0u8; 262144];
-    let mut room = [0u8; 1048640];
-    run_input(&mut input, &mut room);
+    let mut data = [0u8; 1048640];
+    let mut out = [0u8; 1048640];
+    run_input(&mut input, &mut data, &mut out);
 }

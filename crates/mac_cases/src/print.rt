@@ -5,6 +5,11 @@ pub(crate) fn text(s: &[u8]) {
     io::write_all(STDOUT_FILENO, s);
 }
 
+// For a line that is not understood.
+pub(crate) fn not_understood() {
+    text(b" ?\n");
+}
+
 // A space and a number.
 pub(crate) fn number(n: u64) {
     text(b" ");

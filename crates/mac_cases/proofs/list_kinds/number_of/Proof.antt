@@ -1,14 +1,15 @@
--- `tag_of` is safe and ends. Assumes nothing.
+-- `number_of` is safe and ends. Assumes nothing.
 use borrow.Author.Needs.{needs}
 use Prim.Native.Nat.{_-_, _≤_}
-use Rattle.mac_cases.proofs.kinds.tag_of.Statement.{statement}
-use Rattle.mac_cases.proofs.kinds.tag_of.Tie as tie
+use lib.ListN.{length}
+use Rattle.mac_cases.proofs.list_kinds.number_of.Statement.{statement}
+use Rattle.mac_cases.proofs.list_kinds.number_of.Tie as tie
 
 abbrev Inv-loop : tie.InvT-loop
-Inv-loop field tag₀ i₀ tag i = i ≤ 8
+Inv-loop field number₀ i₀ number i = i ≤ length field
 
 abbrev μ-loop : tie.MeasureT-loop
-μ-loop field tag₀ i₀ tag i = 8 - i
+μ-loop field number₀ i₀ number i = length field - i
 
 returns : tie.Need-returns Inv-loop μ-loop
 returns c = search needs
@@ -28,14 +29,14 @@ returns-2 c = search needs
 returns-3 : tie.Need-returns-3 Inv-loop μ-loop
 returns-3 c = search needs
 
-mul-tag : tie.Need-mul-tag Inv-loop μ-loop
-mul-tag c = search needs
+mul-number : tie.Need-mul-number Inv-loop μ-loop
+mul-number c = search needs
 
-cast-tag : tie.Need-cast-tag Inv-loop μ-loop
-cast-tag c = search needs
+cast-number : tie.Need-cast-number Inv-loop μ-loop
+cast-number c = search needs
 
-add-tag : tie.Need-add-tag Inv-loop μ-loop
-add-tag c = search needs
+add-number : tie.Need-add-number Inv-loop μ-loop
+add-number c = search needs
 
 add-i : tie.Need-add-i Inv-loop μ-loop
 add-i c = search needs
@@ -49,8 +50,8 @@ loop-again c = search needs
 returns-4 : tie.Need-returns-4 Inv-loop μ-loop
 returns-4 c = search needs
 
-pub tag-of-spec : {M : Type 1} → statement M
-tag-of-spec =
+pub number-of-spec : {M : Type 1} → statement M
+number-of-spec =
     tie.close
     (tie.spec
     Inv-loop
@@ -61,9 +62,9 @@ tag-of-spec =
     digit-of-requires
     returns-2
     returns-3
-    mul-tag
-    cast-tag
-    add-tag
+    mul-number
+    cast-number
+    add-number
     add-i
     loop-less
     loop-again
