@@ -18,7 +18,14 @@ fn run_one(kind: &[u8], first: &[u8], data: &mut [u8], out: &mut [u8]) {
 }
 
 // The case of a kind with two arguments or more; `rest` is the line from the second argument on.
-fn run_more(fields: usize, kind: &[u8], first: &[u8], rest: &[u8], data: &mut [u8], out: &mut [u8]) {
+fn run_more(
+    fields: usize,
+    kind: &[u8],
+    first: &[u8],
+    rest: &[u8],
+    data: &mut [u8],
+    out: &mut [u8],
+) {
     let third_at = words::next(rest, 0);
     let fourth_at = words::next(rest, third_at);
     let second = words::field(rest, 0);
@@ -37,7 +44,14 @@ fn run_more(fields: usize, kind: &[u8], first: &[u8], rest: &[u8], data: &mut [u
     }
     if fields == 6 {
         if check::same(kind, b"list-check") {
-            list_kinds::check_case(first, second, third, words::field(rest, fourth_at), data, out);
+            list_kinds::check_case(
+                first,
+                second,
+                third,
+                words::field(rest, fourth_at),
+                data,
+                out,
+            );
             return;
         }
     }

@@ -52,7 +52,15 @@ fn print_list(list: &[u8], d: &[u8], length: usize, out: &mut [u8]) {
     print::text(b"\n");
 }
 
-fn run_list(length: usize, list: &[u8], set: &[u8], tags: &mut [u8], data: &mut [u8], out: &mut [u8]) {
+// The case of a stream, with `length` bytes of output room.
+fn run_list(
+    length: usize,
+    list: &[u8],
+    set: &[u8],
+    tags: &mut [u8],
+    data: &mut [u8],
+    out: &mut [u8],
+) {
     let Bytes::Good(t) = bytes::put(list, tags) else {
         print::not_understood();
         return;
@@ -95,8 +103,16 @@ fn print_check(list: &[u8], d: &[u8], expected: &[u8], length: usize, work: &mut
     print::text(b"\n");
 }
 
-// The case of a check whose expected digest is read.
-fn run_check(length: usize, expected: &[u8], list: &[u8], set: &[u8], tags: &mut [u8], data: &mut [u8], out: &mut [u8]) {
+// The case of a check, with `length` bytes of work buffer.
+fn run_check(
+    length: usize,
+    expected: &[u8],
+    list: &[u8],
+    set: &[u8],
+    tags: &mut [u8],
+    data: &mut [u8],
+    out: &mut [u8],
+) {
     let Bytes::Good(t) = bytes::put(list, tags) else {
         print::not_understood();
         return;
@@ -105,19 +121,49 @@ fn run_check(length: usize, expected: &[u8], list: &[u8], set: &[u8], tags: &mut
         print::not_understood();
         return;
     };
-    print_check(words::first(tags, t), words::first(data, n), expected, length, out);
+    print_check(
+        words::first(tags, t),
+        words::first(data, n),
+        expected,
+        length,
+        out,
+    );
 }
 
-fn run_expected(length: usize, expected: &[u8], list: &[u8], set: &[u8], digest: &mut [u8], data: &mut [u8], out: &mut [u8]) {
+// Reads the expected digest of a check, and runs it.
+fn run_expected(
+    length: usize,
+    expected: &[u8],
+    list: &[u8],
+    set: &[u8],
+    digest: &mut [u8],
+    data: &mut [u8],
+    out: &mut [u8],
+) {
     let mut tags = [0u8; 8192];
     match bytes::put(expected, digest) {
-        Bytes::Good(n) => run_check(length, words::first(digest, n), list, set, &mut tags, data, out),
+        Bytes::Good(n) => run_check(
+            length,
+            words::first(digest, n),
+            list,
+            set,
+            &mut tags,
+            data,
+            out,
+        ),
         Bytes::Bad => print::not_understood(),
     }
 }
 
 // list-check ROOM EXPECTED LIST DATA
-pub(crate) fn check_case(room: &[u8], expected: &[u8], list: &[u8], set: &[u8], data: &mut [u8], out: &mut [u8]) {
+pub(crate) fn check_case(
+    room: &[u8],
+    expected: &[u8],
+    list: &[u8],
+    set: &[u8],
+    data: &mut [u8],
+    out: &mut [u8],
+) {
     let mut digest = [0u8; 128];
     match number_of(room) {
         Number::Good(length) => run_expected(length, expected, list, set, &mut digest, data, out),
