@@ -42,7 +42,7 @@ faults-inside d f e = go (ltb sizeLimit (length d)) refl
         record { least = omega (arith, w .number); most = omega (arith, w .number); inside = w .inside; nothing = w .nothing }
 
 pub in-order : InOrder
-in-order d es next e = let r = data-set-read d es next e in record { tree = r .tree; whole = r .whole }
+in-order d es next e = data-set-read d es next e .fills
 
 -- a well-formed data set is read
 pub record IsTree (d : List ℕ) : Type 0 where

@@ -10,7 +10,7 @@ use Rattle.dataset.specs.Tree.{Elements}
 use Rattle.dataset.specs.Reading.{fault, read, _>>=_, explicit, byOne, byItem, byFragment, elementsBy, elementsAt, itemsAt, fragmentsAt, oneAt, refusal, levels, dataSet, WellFormed}
 use Rattle.dataset.specs.Lookup.{found}
 use Rattle.dataset.specs.declared.lookup.Found.{Found}
-use Rattle.dataset.specs.Order.{ElementsLie}
+use Rattle.dataset.specs.Order.{ElementsFill}
 
 -- A well-formed data set has even length.
 abbrev pub EvenLength : Type 0
@@ -26,14 +26,10 @@ pub record Refusal (d : List ℕ) (f : Answer) : Type 0 where
 abbrev pub FaultsInside : Type 0
 FaultsInside = (d : List ℕ) (f : Answer) → dataSet d ≡ fault f → Refusal d f
 
--- The elements of the tree lie in order, each in the extent of what holds it, with ascending tags and at levels 0 to 15 for sequences;
--- they fill the data set.
-pub record Placed (d : List ℕ) (es : Elements) (next : ℕ) : Type 0 where
-  pub tree : ElementsLie es d levels 0 0 next
-  pub whole : next ≡ length d
-
+-- The elements of the tree fill the data set: they lie in order, each part in the extent of what holds it, with ascending tags, and
+-- sequences at levels 0 to 15.
 abbrev pub InOrder : Type 0
-InOrder = (d : List ℕ) (es : Elements) (next : ℕ) → dataSet d ≡ read es next → Placed d es next
+InOrder = (d : List ℕ) (es : Elements) (next : ℕ) → dataSet d ≡ read es next → ElementsFill es d false levels (length d) 0 0 next
 
 -- The bound on the depth of the recursion is enough: any number above the bytes that are left gives the same reading.
 abbrev pub FuelSuffices : Type 0
