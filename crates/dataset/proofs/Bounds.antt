@@ -15,7 +15,7 @@ use Rattle.dataset.specs.Header.{undefined, itemTag, itemDelimiter, sequ
 use Rattle.dataset.specs.Order.{Tagged, Sized, ValueAt, NestAt, Extent, EndsIn}
 use Rattle.dataset.specs.Reading.{Headers, explicit}
 use Rattle.dataset.specs.declared.vr.Form.{Form}
-use Rattle.dataset.specs.declared.vr.Form.the-variants.{Short, Long, Unknown}
+use Rattle.dataset.specs.declared.vr.Form.the-variants.{Short, Long, Neither}
 use Rattle.dataset.specs.declared.header.ElementHeader.{ElementHeader}
 use Rattle.dataset.specs.declared.header.ElementHeader.the-variants as element
 use Rattle.dataset.specs.declared.header.ItemHeader.{ItemHeader}
@@ -90,12 +90,12 @@ ItemFacts d inSequence delimited stop at (item.Item start end inner) = ItemSpan 
 sized-long : (f : Form) (d : List ℕ) (at start n : ℕ) → f ≡ Long → Sized f d at start n → Sized Long d at start n
 sized-long Short d at start n e s = absurd (true≢false (cc))
 sized-long Long d at start n e s = s
-sized-long Unknown d at start n e s = absurd s
+sized-long Neither d at start n e s = absurd s
 
 pub sized-start : (f : Form) (d : List ℕ) (at start n : ℕ) → Sized f d at start n → at + 8 ≤ start
 sized-start Short d at start n s = let z = s .0 in omega arith
 sized-start Long d at start n s = let z = s .0 in omega arith
-sized-start Unknown d at start n s = absurd s
+sized-start Neither d at start n s = absurd s
 
 sq-long : formOf SQ ≡ Long
 unfolding formOf oneOf if_then_else_
@@ -183,7 +183,7 @@ module _ (d : List ℕ) (delimited : Bool) (left stop at least : ℕ) (within : 
   unfolding byForm P
   form-facts Short tag vr f t o v h = value-facts tag vr (at + 8) t o v (omega arith) (num16 d (at + 6)) (rw f (refl, refl))
   form-facts Long tag vr f t o v h = long-facts tag vr t o v f
-  form-facts Unknown tag vr f t o v h = omega arith
+  form-facts Neither tag vr f t o v h = omega arith
 
 ends-facts : (d : List ℕ) (delimiter : ℕ) (delimited : Bool) (stop at : ℕ) → endsAt delimited stop at ≡ true → EndAt d delimiter delimited stop at at
 unfolding endsAt

@@ -11,7 +11,7 @@ use Rattle.dataset.specs.Vr.{formOf, OB, SQ}
 use Rattle.dataset.specs.Tree.{Span, Element, value, sequence, fragments, Elements, none, and, Items, last, item, tagOf, spanOf}
 use Rattle.dataset.specs.Order.{Sized, ValueAt, NestAt, Extent, EndsIn, PartsFill, ElementFills, ElementsFill, ItemsFill, Ends, Closes, PartsLie, ElementLies, ElementsLie, ItemsLie}
 use Rattle.dataset.specs.declared.vr.Form.{Form}
-use Rattle.dataset.specs.declared.vr.Form.the-variants.{Short, Long, Unknown}
+use Rattle.dataset.specs.declared.vr.Form.the-variants.{Short, Long, Neither}
 
 -- ---- what fills an extent from `at` to `stop`, inside the data set
 
@@ -165,7 +165,7 @@ mutual
 sized-even : (f : Form) (d : List ℕ) (at start n : ℕ) → Sized f d at start n → (start - at) % 2 ≡ 0
 sized-even Short d at start n s = omega (arith, s .0)
 sized-even Long d at start n s = omega (arith, s .0)
-sized-even Unknown d at start n s = absurd s
+sized-even Neither d at start n s = absurd s
 
 pub parts-ends : (ss : List Span) (d : List ℕ) (at next : ℕ) → PartsLie ss d at next → Ends d at next
 unfolding PartsLie

@@ -12,7 +12,7 @@ use Rattle.dataset.specs.Vr.{OB, SQ, formOf}
 use Rattle.dataset.specs.Header.{undefined, itemTag, itemDelimiter, sequenceDelimiter}
 use Rattle.dataset.specs.Tree.{Span, Element, value, sequence, fragments, Elements, none, and, Items, last, item, tagOf}
 use Rattle.dataset.specs.declared.vr.Form.{Form}
-use Rattle.dataset.specs.declared.vr.Form.the-variants.{Short, Long, Unknown}
+use Rattle.dataset.specs.declared.vr.Form.the-variants.{Short, Long, Neither}
 
 -- the tag is that of the header at `at`, and not of group FFFE
 pub record Tagged (d : List ℕ) (at tag : ℕ) : Type 0 where
@@ -23,7 +23,7 @@ pub record Tagged (d : List ℕ) (at tag : ℕ) : Type 0 where
 abbrev pub Sized : Form → List ℕ → (at start n : ℕ) → Type 0
 Sized Short d at start n = (start ≡ at + 8) × (num16 d (at + 6) ≡ n)
 Sized Long d at start n = (start ≡ at + 12) × (num16 d (at + 6) ≡ 0) × (num32 d (at + 8) ≡ n)
-Sized Unknown d at start n = ⊥
+Sized Neither d at start n = ⊥
 
 -- a value that is not looked into, of even length, in an extent that ends at `stop`
 pub record ValueAt (d : List ℕ) (stop at tag vr start end : ℕ) : Type 0 where
