@@ -12,10 +12,10 @@ use Rattle.answer.specs.If.{if_then_else_}
 use Rattle.dataset.specs.Bytes.{num16, num32, tagAt, vrAt}
 use Rattle.dataset.specs.Vr.{formOf, oneOf, OB, SQ}
 use Rattle.dataset.specs.Header.{undefined, itemTag, itemDelimiter, sequenceDelimiter, outside, badLength, tooDeep, undefinedBy, definedBy, valueBy, longAt, byForm, vrOnAt, itemBy, endsAt, closedBy, elementAt, itemAt}
-use Rattle.dataset.specs.Order.{Tagged, Sized, ValueAt, NestAt}
+use Rattle.dataset.specs.Order.{Tagged, Sized, ValueAt, NestAt, Extent, EndsIn}
 use Rattle.dataset.specs.Reading.{Headers, explicit}
 use Rattle.dataset.specs.declared.vr.Form.{Form}
-use Rattle.dataset.specs.declared.vr.Form.the-variants.{Short, Long, Unknown}
+use Rattle.dataset.specs.declared.vr.Form.the-variants.{Short, Long, Neither}
 use Rattle.dataset.specs.declared.header.ElementHeader.{ElementHeader}
 use Rattle.dataset.specs.declared.header.ElementHeader.the-variants as element
 use Rattle.dataset.specs.declared.header.ItemHeader.{ItemHeader}
@@ -55,11 +55,12 @@ abbrev pub Number : ℕ → Type 0
 Number n = (2 ≤ n) × (n ≤ 8)
 
 -- the end of an extent: "filled exactly", or closed by a delimiter
-pub record EndAt (delimited : Bool) (stop at next : ℕ) : Type 0 where
+pub record EndAt (d : List ℕ) (delimiter : ℕ) (delimited : Bool) (stop at next : ℕ) : Type 0 where
   pub order : at ≤ next
   pub inside : next ≤ stop
   pub filled : delimited ≡ false → (next ≡ at) × (next ≡ stop)
   pub closed : delimited ≡ true → next ≡ at + 8
+  pub ends : EndsIn d delimiter delimited stop at next
 
 -- an item or a fragment
 pub record ItemSpan (d : List ℕ) (stop at start end : ℕ) (delimited : Bool) : Type 0 where
@@ -68,30 +69,33 @@ pub record ItemSpan (d : List ℕ) (stop at start end : ℕ) (delimited : Bool) 
   pub order : start ≤ end
   pub inside : end ≤ stop
   pub even : delimited ≡ false → (end - start) % 2 ≡ 0
+  pub extent : Extent (num32 d (at + 4)) stop start end delimited
 
 abbrev pub ElementFacts : List ℕ → (delimited : Bool) (left stop at least : ℕ) → ElementHeader → Type 0
 ElementFacts d delimited left stop at least (element.Refused number) = Number number
-ElementFacts d delimited left stop at least (element.End next) = EndAt delimited stop at next
+ElementFacts d delimited left stop at least (element.End next) = EndAt d itemDelimiter delimited stop at next
 ElementFacts d delimited left stop at least (element.Value tag vr start end) = (least ≤ tag) × ValueAt d stop at tag vr start end
 ElementFacts d delimited left stop at least (element.Sequence tag start end inner) =
     (least ≤ tag) × NestAt d stop at tag SQ start × (start ≤ end) × (end ≤ stop) × (0 < left) × (stop ≤ length d)
+    × Extent (num32 d (at + 8)) stop start end inner
 ElementFacts d delimited left stop at least (element.Fragments tag start) = (least ≤ tag) × NestAt d stop at tag OB start × (stop ≤ length d)
+    × (num32 d (at + 8) ≡ undefined)
 
 abbrev pub ItemFacts : List ℕ → (inSequence delimited : Bool) (stop at : ℕ) → ItemHeader → Type 0
 ItemFacts d inSequence delimited stop at (item.Refused number) = Number number
-ItemFacts d inSequence delimited stop at (item.End next) = EndAt delimited stop at next
+ItemFacts d inSequence delimited stop at (item.End next) = EndAt d sequenceDelimiter delimited stop at next
 ItemFacts d inSequence delimited stop at (item.Item start end inner) = ItemSpan d stop at start end inner × (inSequence ≡ false → inner ≡ false)
 
 -- ---- the checks of a length and a value
-sized-long : (f : Form) (d : List ℕ) (at start n : ℕ) → f ≡ Long → Sized f d at start n → (start ≡ at + 12) × (num16 d (at + 6) ≡ 0)
+sized-long : (f : Form) (d : List ℕ) (at start n : ℕ) → f ≡ Long → Sized f d at start n → Sized Long d at start n
 sized-long Short d at start n e s = absurd (true≢false (cc))
-sized-long Long d at start n e s = (s .0, s .1)
-sized-long Unknown d at start n e s = absurd s
+sized-long Long d at start n e s = s
+sized-long Neither d at start n e s = absurd s
 
 pub sized-start : (f : Form) (d : List ℕ) (at start n : ℕ) → Sized f d at start n → at + 8 ≤ start
 sized-start Short d at start n s = let z = s .0 in omega arith
 sized-start Long d at start n s = let z = s .0 in omega arith
-sized-start Unknown d at start n s = absurd s
+sized-start Neither d at start n s = absurd s
 
 sq-long : formOf SQ ≡ Long
 unfolding formOf oneOf if_then_else_
@@ -126,6 +130,9 @@ module _ (d : List ℕ) (delimited : Bool) (left stop at least : ℕ) (within : 
         let z = sized-long (formOf vr) d at start n (ap formOf e ∙ l) s in
         record { tagged = t; letters = sym v ∙ e; reserved = z .1; starts = z .0; inside = h }
 
+    counted : (k n : ℕ) → vr ≡ k → formOf k ≡ Long → Sized (formOf vr) d at start n → num32 d (at + 8) ≡ n
+    counted k n e l s = sized-long (formOf vr) d at start n (ap formOf e ∙ l) s .2
+
     value-facts : (len : ℕ) → Sized (formOf vr) d at start len → P (valueBy tag vr left stop start len)
     unfolding valueBy undefinedBy definedBy P
     value-facts len s =
@@ -133,12 +140,22 @@ module _ (d : List ℕ) (delimited : Bool) (left stop at least : ℕ) (within : 
         choose P (tooDeep vr left) (λ e. omega arith) λ e2.
         choose P (eqb len undefined)
         (λ e. choose P (eqb vr SQ)
-        (λ q. (o, nest SQ len (eqb-true vr SQ q) sq-long s, h, omega arith, level vr left e2 q, within))
-        λ q. (o, nest OB len (eqb-true vr OB (undefined-ob vr len e1 e q)) ob-long s, within)) λ e3.
+        (λ q. let x = eqb-true vr SQ q in
+        (o, nest SQ len x sq-long s, h, omega arith, level vr left e2 q, within, (counted SQ len x sq-long s ∙ eqb-true len undefined e, refl)))
+        λ q. let x = eqb-true vr OB (undefined-ob vr len e1 e q) in
+        (o, nest OB len x ob-long s, within, counted OB len x ob-long s ∙ eqb-true len undefined e)) λ e3.
         choose P (ltb (stop - start) len) (λ e. omega arith) λ e4.
         let fit = ltb-false (stop - start) len e4 in
         choose P (eqb vr SQ)
-        (λ q. (o, nest SQ len (eqb-true vr SQ q) sq-long s, omega arith, omega arith, level vr left e2 q, within))
+        (λ q. let x = eqb-true vr SQ q in (
+          o,
+          nest SQ len x sq-long s,
+          omega arith,
+          omega arith,
+          level vr left e2 q,
+          within,
+          rw (counted SQ len x sq-long s) (defined-even vr len e1 e3, refl, omega arith),
+        ))
         λ q. (
           o,
           let n : start + len - start ≡ len = omega arith in record {
@@ -166,11 +183,11 @@ module _ (d : List ℕ) (delimited : Bool) (left stop at least : ℕ) (within : 
   unfolding byForm P
   form-facts Short tag vr f t o v h = value-facts tag vr (at + 8) t o v (omega arith) (num16 d (at + 6)) (rw f (refl, refl))
   form-facts Long tag vr f t o v h = long-facts tag vr t o v f
-  form-facts Unknown tag vr f t o v h = omega arith
+  form-facts Neither tag vr f t o v h = omega arith
 
-ends-facts : (delimited : Bool) (stop at : ℕ) → endsAt delimited stop at ≡ true → EndAt delimited stop at at
+ends-facts : (d : List ℕ) (delimiter : ℕ) (delimited : Bool) (stop at : ℕ) → endsAt delimited stop at ≡ true → EndAt d delimiter delimited stop at at
 unfolding endsAt
-ends-facts delimited stop at e =
+ends-facts d delimiter delimited stop at e =
     let z = both (not delimited) (eqb at stop) e in
     let q = eqb-true at stop (z .1) in
     record {
@@ -178,17 +195,20 @@ ends-facts delimited stop at e =
       inside = omega arith;
       filled = λ x. (refl, q);
       closed = λ x. absurd (true≢false (sym x ∙ not-true delimited (z .0)));
+      ends = rw (not-true delimited (z .0)) (q, refl);
     }
 
-closed-facts : (d : List ℕ) (delimiter : ℕ) (delimited : Bool) (stop at : ℕ) → 8 ≤ stop - at → closedBy d delimiter delimited at ≡ true → EndAt delimited stop at (at + 8)
+closed-facts : (d : List ℕ) (delimiter : ℕ) (delimited : Bool) (stop at : ℕ) → 8 ≤ stop - at → closedBy d delimiter delimited at ≡ true → EndAt d delimiter delimited stop at (at + 8)
 unfolding closedBy
 closed-facts d delimiter delimited stop at h e =
     let z = both delimited (eqb (tagAt d at) delimiter && eqb (num32 d (at + 4)) 0) e in
+    let y = both (eqb (tagAt d at) delimiter) (eqb (num32 d (at + 4)) 0) (z .1) in
     record {
       order = omega arith;
       inside = omega arith;
       filled = λ x. absurd (false≢true (sym x ∙ z .0));
       closed = λ x. refl;
+      ends = rw (z .0) (eqb-true (tagAt d at) delimiter (y .0), eqb-true (num32 d (at + 4)) 0 (y .1), refl, omega arith);
     }
 
 inside-of : (d : List ℕ) (stop at : ℕ) → outside d stop at ≡ false → (stop ≤ length d) × (at ≤ stop)
@@ -203,7 +223,7 @@ element-facts d delimited left stop at least =
     let P = ElementFacts d delimited left stop at least in
     choose P (outside d stop at) (λ e. omega arith) λ e0.
     let k = inside-of d stop at e0 in
-    choose P (endsAt delimited stop at) (λ e. ends-facts delimited stop at e) λ e1.
+    choose P (endsAt delimited stop at) (λ e. ends-facts d itemDelimiter delimited stop at e) λ e1.
     choose P (ltb (stop - at) 8) (λ e. omega arith) λ e2.
     let m = ltb-false (stop - at) 8 e2 in
     choose P (closedBy d itemDelimiter delimited at) (λ e. closed-facts d itemDelimiter delimited stop at m e) λ e3.
@@ -213,21 +233,22 @@ element-facts d delimited left stop at least =
     record { stands = refl; group = eqb-false (num16 d at) 0xFFFE e4 } (ltb-false (tagAt d at) least e5) refl m
 
 -- ---- an item or a fragment
-item-by-facts : (d : List ℕ) (inSequence delimited : Bool) (stop at len : ℕ) → tagAt d at ≡ itemTag → at + 8 ≤ stop
+item-by-facts : (d : List ℕ) (inSequence delimited : Bool) (stop at len : ℕ) → num32 d (at + 4) ≡ len → tagAt d at ≡ itemTag → at + 8 ≤ stop
     → ItemFacts d inSequence delimited stop at (itemBy inSequence stop (at + 8) len)
 unfolding itemBy
-item-by-facts d inSequence delimited stop at len t h =
+item-by-facts d inSequence delimited stop at len c t h =
     let P = ItemFacts d inSequence delimited stop at in
     choose P (eqb len undefined && inSequence)
-    (λ e. (
-      record { tag = t; starts = refl; order = h; inside = omega arith; even = λ x. absurd (true≢false x) },
-      λ x. absurd (true≢false (sym (both (eqb len undefined) inSequence e .1) ∙ x)),
+    (λ e. let u = both (eqb len undefined) inSequence e in (
+      record { tag = t; starts = refl; order = h; inside = omega arith; even = λ x. absurd (true≢false x); extent = (c ∙ eqb-true len undefined (u .0), refl) },
+      λ x. absurd (true≢false (sym (u .1) ∙ x)),
     )) λ e1.
     choose P (eqb (len % 2) 1) (λ e. omega arith) λ e2.
     choose P (ltb (stop - (at + 8)) len) (λ e. omega arith) λ e3.
     let fit = ltb-false (stop - (at + 8)) len e3 in
-    let n : at + 8 + len - (at + 8) ≡ len = omega arith in (
-      record { tag = t; starts = refl; order = omega arith; inside = omega arith; even = λ x. rw n (not-one len (eqb-false (len % 2) 1 e2)) },
+    let n : at + 8 + len - (at + 8) ≡ len = omega arith in
+    let v = not-one len (eqb-false (len % 2) 1 e2) in (
+      record { tag = t; starts = refl; order = omega arith; inside = omega arith; even = λ x. rw n v; extent = rw c (v, refl, omega arith) },
       λ x. refl,
     )
 
@@ -237,12 +258,12 @@ item-facts d inSequence delimited stop at =
     let P = ItemFacts d inSequence delimited stop at in
     choose P (outside d stop at) (λ e. omega arith) λ e0.
     let k = inside-of d stop at e0 in
-    choose P (endsAt delimited stop at) (λ e. ends-facts delimited stop at e) λ e1.
+    choose P (endsAt delimited stop at) (λ e. ends-facts d sequenceDelimiter delimited stop at e) λ e1.
     choose P (ltb (stop - at) 8) (λ e. omega arith) λ e2.
     let m = ltb-false (stop - at) 8 e2 in
     choose P (closedBy d sequenceDelimiter delimited at) (λ e. closed-facts d sequenceDelimiter delimited stop at m e) λ e3.
     choose P (not (eqb (tagAt d at) itemTag)) (λ e. omega arith) λ e4.
-    item-by-facts d inSequence delimited stop at _ (eqb-true (tagAt d at) itemTag (not-false (eqb (tagAt d at) itemTag) e4)) (omega arith)
+    item-by-facts d inSequence delimited stop at _ refl (eqb-true (tagAt d at) itemTag (not-false (eqb (tagAt d at) itemTag) e4)) (omega arith)
 
 -- ---- what the recursion needs of the headers it is defined over
 abbrev pub ElementIn : (stop at : ℕ) → ElementHeader → Type 0

@@ -10,7 +10,7 @@ use Rattle.dataset.specs.Header.{longAt, byForm, vrOnAt, valueBy, itemBy
 use Rattle.dataset.specs.Bytes.{num16, num32, tagAt, vrAt}
 use Rattle.dataset.specs.Vr.{formOf}
 use Rattle.dataset.specs.declared.vr.Form.{Form}
-use Rattle.dataset.specs.declared.vr.Form.the-variants.{Short, Long, Unknown}
+use Rattle.dataset.specs.declared.vr.Form.the-variants.{Short, Long, Neither}
 use Rattle.dataset.specs.declared.header.ElementHeader.{ElementHeader}
 use Rattle.dataset.specs.declared.header.ElementHeader.the-variants as element
 use Rattle.dataset.specs.declared.header.ItemHeader.{ItemHeader}
@@ -87,7 +87,7 @@ pub long-form : (d : List ℕ) (tag left stop at v : ℕ) (f : Form) (z : Elemen
 unfolding vrOnAt byForm
 long-form d tag left stop at v f z e q s w = rw (← e, ← q, s) w
 
-pub no-form : (d : List ℕ) (tag left stop at v : ℕ) (f : Form) → v ≡ vrAt d at → f ≡ formOf v → f ≡ Unknown → element.Refused 5 ≡ vrOnAt d tag left stop at
+pub no-form : (d : List ℕ) (tag left stop at v : ℕ) (f : Form) → v ≡ vrAt d at → f ≡ formOf v → f ≡ Neither → element.Refused 5 ≡ vrOnAt d tag left stop at
 unfolding vrOnAt byForm
 no-form d tag left stop at v f e q s = rw (← e, ← q, s)
 

@@ -1,5 +1,5 @@
 -- The theorems that specs/Theorems.antt states. Assumes nothing.
-use Prim.Native.Nat.{ℕ, suc, _-_}
+use Prim.Native.Nat.{ℕ, suc, _-_, _≤_}
 use mathlib.Core.Path.{_≡_, refl, sym, ap, _∙_}
 use mathlib.Core.Bool.{Bool, true, false, true≢false, false≢true}
 use mathlib.Core.List.{List}
@@ -14,10 +14,10 @@ use Rattle.answer.specs.Answer as answer
 use Rattle.dataset.specs.Tree.{Element, Elements}
 use Rattle.dataset.specs.Lookup.{find, foundOf, foundIn, found}
 use Rattle.dataset.proofs.LookupSteps.{found-inside}
-use Rattle.dataset.specs.Reading.{Reading, fault, read, explicit, elementsAt, sizeLimit, levels, dataSet, answerOf, WellFormed}
-use Rattle.dataset.specs.Theorems.{EvenLength, Refusal, FaultsInside, InOrder, FuelSuffices, Unfolds, ValueInside}
+use Rattle.dataset.specs.Reading.{Reading, fault, read, One, ended, element, explicit, elementsAt, oneAt, sizeLimit, levels, dataSet, answerOf, WellFormed}
+use Rattle.dataset.specs.Theorems.{EvenLength, FaultsOfOne, ValueInside, Theorems}
 use Rattle.dataset.proofs.Bounds.{explicit-bounded}
-use Rattle.dataset.proofs.Unfolding.{Within, FaultIn, elements-within, elements-enough, elements-are, items-are, fragments-are}
+use Rattle.dataset.proofs.Unfolding.{Within, FaultIn, elements-within, elements-enough, items-enough, fragments-enough, OneIn, one-in, elements-are, items-are, fragments-are}
 use Rattle.dataset.proofs.Steps.{data-set-is, data-set-over}
 use Rattle.dataset.proofs.Guarantees.{data-set-read}
 use Rattle.dataset.proofs.Order.{elements-end}
@@ -26,11 +26,18 @@ within-fault : {A : Type 0} (lo hi : ℕ) (p : Reading A) (f : Answer) → Withi
 within-fault lo hi (fault g) f w e = let q : g ≡ f = cc in rw (← q) w
 within-fault lo hi (read a n) f w e = absurd (true≢false (cc))
 
-pub faults-inside : FaultsInside
+-- a fault of the reading, as later proofs use it
+pub record FaultIs (d : List ℕ) (f : Answer) : Type 0 where
+  pub least : 1 ≤ f .number
+  pub most : f .number ≤ 8
+  pub inside : f .position ≤ length d
+  pub nothing : f .length ≡ 0
+
+pub faults-inside : (d : List ℕ) (f : Answer) → dataSet d ≡ fault f → FaultIs d f
 unfolding elementsAt
 faults-inside d f e = go (ltb sizeLimit (length d)) refl
   where
-    go : (b : Bool) → ltb sizeLimit (length d) ≡ b → Refusal d f
+    go : (b : Bool) → ltb sizeLimit (length d) ≡ b → FaultIs d f
     go true b =
         let q : _≡_ {A = Reading Elements} (fault (answer.refused 1 0)) (fault f) = sym (data-set-over d (ltb-true sizeLimit (length d) b)) ∙ e in
         let z : answer.refused 1 0 ≡ f = cc in
@@ -41,8 +48,15 @@ faults-inside d f e = go (ltb sizeLimit (length d)) refl
         (sym (data-set-is d (ltb-false sizeLimit (length d) b)) ∙ e) in
         record { least = omega (arith, w .number); most = omega (arith, w .number); inside = w .inside; nothing = w .nothing }
 
-pub in-order : InOrder
-in-order d es next e = let r = data-set-read d es next e in record { tree = r .tree; whole = r .whole }
+one-fault : (lo hi : ℕ) (p : Reading One) (f : Answer) → OneIn lo hi p → p ≡ fault f → FaultIn lo hi f
+one-fault lo hi (fault g) f w e = let q : g ≡ f = cc in rw (← q) w
+one-fault lo hi (read ended n) f w e = absurd (true≢false (cc))
+one-fault lo hi (read (element x) n) f w e = absurd (true≢false (cc))
+
+faults-of-one : FaultsOfOne
+faults-of-one d delimited left stop at least f h l e =
+    let w = one-fault at stop (oneAt explicit d delimited left stop at least) f (one-in explicit explicit-bounded d delimited left stop at least h) e in
+    record { fromLowest = w .number .0; upTo8 = w .number .1; after = w .order; inside = w .inside; noLength = w .nothing }
 
 -- a well-formed data set is read
 pub record IsTree (d : List ℕ) : Type 0 where
@@ -61,24 +75,14 @@ well-formed-read d w = go (dataSet d) refl
         absurd (omega (arith, r .least, n))
     go (read es n) e = record { elements = es; next = n; is = e }
 
-pub even-length : EvenLength
+even-length : EvenLength
 even-length d w =
     let t = well-formed-read d w in
     let r = data-set-read d (t .elements) (t .next) (t .is) in
     let k = elements-end (t .elements) d levels 0 0 (t .next) (r .tree) in
     omega (arith, k .even, r .whole)
 
-pub fuel-suffices : FuelSuffices
-fuel-suffices n d delimited left stop at least h l = elements-enough explicit explicit-bounded n d delimited left stop at least h l
-
-pub unfolds : Unfolds
-unfolds d delimited left stop at h = record {
-  elements = λ least. elements-are explicit explicit-bounded d delimited left stop at least h;
-  items = items-are explicit explicit-bounded d delimited left stop at h;
-  fragments = fragments-are explicit explicit-bounded d left stop at h;
-}
-
-pub value-inside : ValueInside
+value-inside : ValueInside
 unfolding found foundIn foundOf
 value-inside d tag = record { inside = found-inside d tag (found d tag) refl; stands = go (dataSet d); otherwise = other (dataSet d) }
   where
@@ -93,3 +97,22 @@ value-inside d tag = record { inside = found-inside d tag (found d tag) refl; st
     other : (p : Reading Elements) → foundIn (length d) tag p .present ≡ false → (foundIn (length d) tag p .start ≡ length d) × (foundIn (length d) tag p .length ≡ 0)
     other (fault f) e = (refl, refl)
     other (read es n) e = missing (find tag es) e
+
+pub theorems : Theorems
+theorems = record {
+  even-length = even-length;
+  faults-inside = λ d f e. let r = faults-inside d f e in record { fromLowest = r .least; upTo8 = r .most; after = omega arith; inside = r .inside; noLength = r .nothing };
+  faults-of-one = faults-of-one;
+  in-order = λ d es next e. data-set-read d es next e .fills;
+  fuel-suffices = λ n d delimited left stop at h l. record {
+    elements = λ least. elements-enough explicit explicit-bounded n d delimited left stop at least h l;
+    items = items-enough explicit explicit-bounded n d delimited left stop at h l;
+    fragments = fragments-enough explicit explicit-bounded n d left stop at h l;
+  };
+  unfolds = λ d delimited left stop at h. record {
+    elements = λ least. elements-are explicit explicit-bounded d delimited left stop at least h;
+    items = items-are explicit explicit-bounded d delimited left stop at h;
+    fragments = fragments-are explicit explicit-bounded d left stop at h;
+  };
+  value-inside = value-inside;
+}

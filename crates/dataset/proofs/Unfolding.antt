@@ -1,5 +1,5 @@
--- The equations of the reading that name no bound on its depth (`elements-are`, `one-is`, `items-are`, `fragments-are`), for any headers
--- that stay in their extents: the bound is enough, and what is read lies in its extent. Assumes nothing.
+-- The equations of the reading that name no fuel (`elements-are`, `one-is`, `items-are`, `fragments-are`), for any headers
+-- that stay in their extents: the fuel is enough, and what is read lies in its extent. Assumes nothing.
 use Prim.Native.Nat.{ℕ, zero, suc, _+_, _-_, _≤_, _<_}
 use mathlib.Core.Path.{_≡_, refl, ap, _∙_}
 use mathlib.Core.Bool.{Bool, true, false}
@@ -139,14 +139,14 @@ refuses : (stop at : ℕ) → at ≤ stop → (number : ℕ) → Number number �
 refuses stop at z number h = record { number = h; order = omega arith; inside = z; nothing = refl }
 
 module _ (h : Headers) (b : Bounded h) where
-  -- the readers of what an element holds, and of one element, by a bound
+  -- the readers of what an element holds, and of one element, by their fuel
   abbrev itemsOf : ℕ → List ℕ → (left : ℕ) → Bool → ℕ → ℕ → Reading Items
   itemsOf n d left inner end start = itemsBy h n d inner left end start
 
   abbrev oneBy : ℕ → List ℕ → (delimited : Bool) (left stop at least : ℕ) → Reading One
   oneBy n d delimited left stop at least = byHeader (refusal at) (itemsOf n d left) (fragmentsBy h n d left stop) at (h .element d delimited left stop at least)
 
-  -- ---- a bound above the bytes that are left is enough
+  -- ---- fuel above the bytes that are left is enough
   pub fragments-within : (n : ℕ) (d : List ℕ) (left stop at : ℕ) → at ≤ stop → stop - at < n → Within at stop (fragmentsBy h n d left stop at)
   unfolding fragmentsBy
   fragments-within zero d left stop at z l = absurd (omega arith)
@@ -175,7 +175,7 @@ module _ (h : Headers) (b : Bounded h) where
         (λ inner end i p q r. elements-within n d inner (left - 1) end i 0 q (omega arith))
         (λ i p q. items-within n d delimited left stop i q (omega arith))
 
-  -- ---- two bounds that are enough read the same
+  -- ---- two fuels that are enough read the same
   fragments-same : (m n : ℕ) (d : List ℕ) (left stop at : ℕ) → at ≤ stop → stop - at < m → stop - at < n
       → fragmentsBy h m d left stop at ≡ fragmentsBy h n d left stop at
   unfolding fragmentsBy
@@ -249,8 +249,17 @@ module _ (h : Headers) (b : Bounded h) where
       ∙ one-same stop at (refusal at) (elementsBy h (stop - at) d delimited left stop) (elementsAt h d delimited left stop) (oneAt h d delimited left stop at least) (one-in d delimited left stop at least z)
       (λ i above p q. elements-same (stop - at) (suc (stop - i)) d delimited left stop i above q (omega arith) (omega arith))
 
-  -- any bound above the bytes that are left is enough
+  -- any fuel above the bytes that are left reads the same
   pub elements-enough : (n : ℕ) (d : List ℕ) (delimited : Bool) (left stop at least : ℕ) → at ≤ stop → stop - at < n
       → elementsBy h n d delimited left stop at least ≡ elementsAt h d delimited left stop at least
   unfolding elementsAt
   elements-enough n d delimited left stop at least z l = elements-same n (suc (stop - at)) d delimited left stop at least z l (omega arith)
+
+  pub items-enough : (n : ℕ) (d : List ℕ) (delimited : Bool) (left stop at : ℕ) → at ≤ stop → stop - at < n
+      → itemsBy h n d delimited left stop at ≡ itemsAt h d delimited left stop at
+  unfolding itemsAt
+  items-enough n d delimited left stop at z l = items-same n (suc (stop - at)) d delimited left stop at z l (omega arith)
+
+  pub fragments-enough : (n : ℕ) (d : List ℕ) (left stop at : ℕ) → at ≤ stop → stop - at < n → fragmentsBy h n d left stop at ≡ fragmentsAt h d left stop at
+  unfolding fragmentsAt
+  fragments-enough n d left stop at z l = fragments-same n (suc (stop - at)) d left stop at z l (omega arith)

@@ -8,7 +8,7 @@ use Rattle.answer.specs.If.{if_then_else_}
 use Rattle.dataset.specs.Bytes.{num16, num32, tagAt, vrAt}
 use Rattle.dataset.specs.Vr.{formOf, OB, SQ}
 use Rattle.dataset.specs.declared.vr.Form.{Form}
-use Rattle.dataset.specs.declared.vr.Form.the-variants.{Short, Long, Unknown}
+use Rattle.dataset.specs.declared.vr.Form.the-variants.{Short, Long, Neither}
 use Rattle.dataset.specs.declared.header.ElementHeader.{ElementHeader}
 use Rattle.dataset.specs.declared.header.ElementHeader.the-variants as element
 use Rattle.dataset.specs.declared.header.ItemHeader.{ItemHeader}
@@ -80,7 +80,7 @@ longAt d tag vr left stop at =
 unfoldable pub byForm : Form → List ℕ → (tag vr left stop at : ℕ) → ElementHeader
 byForm Short d tag vr left stop at = valueBy tag vr left stop (at + 8) (num16 d (at + 6))
 byForm Long d tag vr left stop at = longAt d tag vr left stop at
-byForm Unknown d tag vr left stop at = element.Refused 5
+byForm Neither d tag vr left stop at = element.Refused 5
 
 unfoldable pub vrOnAt : List ℕ → (tag left stop at : ℕ) → ElementHeader
 vrOnAt d tag left stop at = byForm (formOf (vrAt d at)) d tag (vrAt d at) left stop at

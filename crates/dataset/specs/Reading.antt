@@ -89,8 +89,8 @@ byFragment refuse parts (place.Item start stop delimited) = do
   read (span start stop ∷ rest) after
 
 module _ (h : Headers) where
-  -- The recursion goes by a number that bounds its depth. Where it is used up the fault's number is 0, which `elementsAt` and the others
-  -- below never give (`FuelSuffices` and `FaultsInside` of Theorems.antt). `left` is 16 less the level: that of the data set that is read,
+  -- The recursion counts down a number (fuel), one for each header on the way. Where it is used up the fault's number is 0, which
+  -- `elementsAt` and the others below never give (`FuelSuffices`, `FaultsInside` and `FaultsOfOne` of Theorems.antt). `left` is 16 less the level: that of the data set that is read,
   -- or that of the sequence or OB.
   unfoldable pub fragmentsBy : ℕ → List ℕ → (left stop at : ℕ) → Reading (List Span)
   fragmentsBy zero d left stop at = fault (refusal at 0)

@@ -1,4 +1,5 @@
--- What is true of the reading: statements that a reader of the definitions would ask for, each proved in proofs/Theorems.antt. Assumes nothing.
+-- What is true of the reading: statements that a reader of the definitions would ask for, proved together in proofs/Theorems.antt. Assumes
+-- nothing.
 use Prim.Native.Nat.{ℕ, _+_, _-_, _%_, _≤_, _<_}
 use mathlib.Core.Path.{_≡_}
 use mathlib.Core.Bool.{Bool, true, false}
@@ -7,41 +8,49 @@ use lib.ListN.{length}
 use Rattle.answer.specs.declared.Answer.{Answer}
 use Rattle.dataset.specs.Header.{itemAt}
 use Rattle.dataset.specs.Tree.{Elements}
-use Rattle.dataset.specs.Reading.{fault, read, _>>=_, explicit, byOne, byItem, byFragment, elementsBy, elementsAt, itemsAt, fragmentsAt, oneAt, refusal, levels, dataSet, WellFormed}
+use Rattle.dataset.specs.Reading.{fault, read, _>>=_, explicit, byOne, byItem, byFragment, fragmentsBy, elementsBy, itemsBy, elementsAt, itemsAt, fragmentsAt, oneAt, refusal, levels, dataSet, WellFormed}
 use Rattle.dataset.specs.Lookup.{found}
 use Rattle.dataset.specs.declared.lookup.Found.{Found}
-use Rattle.dataset.specs.Order.{ElementsLie}
+use Rattle.dataset.specs.Order.{ElementsFill}
 
 -- A well-formed data set has even length.
 abbrev pub EvenLength : Type 0
 EvenLength = (d : List ℕ) → WellFormed d → length d % 2 ≡ 0
 
--- A refusal of the reading has one of the numbers 1 to 8, an offset that is at most the data's length, and length 0.
-pub record Refusal (d : List ℕ) (f : Answer) : Type 0 where
-  pub least : 1 ≤ f .number
-  pub most : f .number ≤ 8
-  pub inside : f .position ≤ length d
-  pub nothing : f .length ≡ 0
+-- a number from `lowest` to 8, an offset from `from` to `upTo`, and length 0
+pub record Refusal (lowest from upTo : ℕ) (f : Answer) : Type 0 where
+  pub fromLowest : lowest ≤ f .number
+  pub upTo8 : f .number ≤ 8
+  pub after : from ≤ f .position
+  pub inside : f .position ≤ upTo
+  pub noLength : f .length ≡ 0
 
+-- A refusal of the reading has one of the numbers 1 to 8 and an offset that is at most the data's length.
 abbrev pub FaultsInside : Type 0
-FaultsInside = (d : List ℕ) (f : Answer) → dataSet d ≡ fault f → Refusal d f
+FaultsInside = (d : List ℕ) (f : Answer) → dataSet d ≡ fault f → Refusal 1 0 (length d) f
 
--- The elements of the tree lie in order, each in the extent of what holds it, with ascending tags and at levels 0 to 15 for sequences;
--- they fill the data set.
-pub record Placed (d : List ℕ) (es : Elements) (next : ℕ) : Type 0 where
-  pub tree : ElementsLie es d levels 0 0 next
-  pub whole : next ≡ length d
+-- In an extent inside the data, a refusal of what is read in an element's place has one of the numbers 2 to 8 and an offset in the extent, or
+-- at its end.
+abbrev pub FaultsOfOne : Type 0
+FaultsOfOne =
+    (d : List ℕ) (delimited : Bool) (left stop at least : ℕ) (f : Answer) → at ≤ stop → stop ≤ length d
+    → oneAt explicit d delimited left stop at least ≡ fault f → Refusal 2 at stop f
 
+-- The elements of the tree fill the data set: they lie in order, each part in the extent of what holds it, with ascending tags, and
+-- sequences at levels 0 to 15.
 abbrev pub InOrder : Type 0
-InOrder = (d : List ℕ) (es : Elements) (next : ℕ) → dataSet d ≡ read es next → Placed d es next
+InOrder = (d : List ℕ) (es : Elements) (next : ℕ) → dataSet d ≡ read es next → ElementsFill es d false levels (length d) 0 0 next
 
--- The bound on the depth of the recursion is enough: any number above the bytes that are left gives the same reading.
+-- The fuel that the definitions start with is enough: any number above the bytes that are left gives the same reading.
+pub record Enough (n : ℕ) (d : List ℕ) (delimited : Bool) (left stop at : ℕ) : Type 0 where
+  pub elements : (least : ℕ) → elementsBy explicit n d delimited left stop at least ≡ elementsAt explicit d delimited left stop at least
+  pub items : itemsBy explicit n d delimited left stop at ≡ itemsAt explicit d delimited left stop at
+  pub fragments : fragmentsBy explicit n d left stop at ≡ fragmentsAt explicit d left stop at
+
 abbrev pub FuelSuffices : Type 0
-FuelSuffices =
-    (n : ℕ) (d : List ℕ) (delimited : Bool) (left stop at least : ℕ) → at ≤ stop → stop - at < n
-    → elementsBy explicit n d delimited left stop at least ≡ elementsAt explicit d delimited left stop at least
+FuelSuffices = (n : ℕ) (d : List ℕ) (delimited : Bool) (left stop at : ℕ) → at ≤ stop → stop - at < n → Enough n d delimited left stop at
 
--- So the reading obeys equations with no bound in them: the elements of a data set are one element and the rest, items are one item, whose
+-- So the reading obeys equations with no fuel in them: the elements of a data set are one element and the rest, items are one item, whose
 -- elements are a data set one level down, and the rest, and fragments one fragment and the rest.
 pub record Equations (d : List ℕ) (delimited : Bool) (left stop at : ℕ) : Type 0 where
   pub elements : (least : ℕ)
@@ -64,3 +73,13 @@ pub record FoundInside (d : List ℕ) (f : Found) : Type 0 where
 
 abbrev pub ValueInside : Type 0
 ValueInside = (d : List ℕ) (tag : ℕ) → FoundInside d (found d tag)
+
+-- all of them
+pub record Theorems : Type 0 where
+  pub even-length : EvenLength
+  pub faults-inside : FaultsInside
+  pub faults-of-one : FaultsOfOne
+  pub in-order : InOrder
+  pub fuel-suffices : FuelSuffices
+  pub unfolds : Unfolds
+  pub value-inside : ValueInside

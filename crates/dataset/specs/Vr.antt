@@ -5,7 +5,7 @@ use mathlib.Core.List.{List, [], _∷_}
 use lib.Dec.{eqb}
 use Rattle.answer.specs.If.{if_then_else_}
 use Rattle.dataset.specs.declared.vr.Form.{Form}
-use Rattle.dataset.specs.declared.vr.Form.the-variants.{Short, Long, Unknown}
+use Rattle.dataset.specs.declared.vr.Form.the-variants.{Short, Long, Neither}
 
 -- a VR by the codes of its two letters, as one number
 abbrev pub vr : (first second : ℕ) → ℕ
@@ -93,4 +93,4 @@ oneOf v (x ∷ xs) = eqb v x || oneOf v xs
 
 -- the form of a VR's header, or "VR in neither list"
 unfoldable pub formOf : ℕ → Form
-formOf v = if oneOf v shortForm then Short else if oneOf v longForm then Long else Unknown
+formOf v = if oneOf v shortForm then Short else if oneOf v longForm then Long else Neither

@@ -185,7 +185,7 @@ fn vr_on(d: &[u8], tag: u32, left: u32, stop: usize, at: usize) -> ElementHeader
             value_by(tag, vr, left, stop, at + 8, len as usize)
         }
         Form::Long => long_form(d, tag, vr, left, stop, at),
-        Form::Unknown => ElementHeader::Refused(5),
+        Form::Neither => ElementHeader::Refused(5),
     }
 }
 

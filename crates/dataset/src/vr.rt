@@ -14,8 +14,8 @@ pub(crate) enum Form {
     Short,
     // two reserved bytes and a four-byte length
     Long,
-    // the VR is in neither list
-    Unknown,
+    // "VR in neither list"
+    Neither,
 }
 
 const SHORT_FORM: [u16; 21] = [
@@ -75,5 +75,5 @@ pub(crate) fn form_of(vr: u16) -> Form
     if one_of(vr, &LONG_FORM) {
         return Form::Long;
     }
-    Form::Unknown
+    Form::Neither
 }

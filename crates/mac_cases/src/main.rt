@@ -1,5 +1,6 @@
 // Runs the cases of standard input and prints a line for each. A case is a line `NAME KIND ARGS`, its fields parted by single
-// spaces; an empty line and one that starts with # print nothing; a line that is not understood prints `NAME ?`.
+// spaces; an empty line and one that starts with # print nothing; a line that is not understood prints `NAME ?`. Of a longer input
+// than 2,228,223 bytes nothing is run: it prints the one line `input over 2228223 bytes`.
 //   NAME read DATA                               prints NAME NUMBER POSITION
 //   NAME lookup TAG DATA                         prints NAME NUMBER POSITION yes|no LENGTH HEX, without HEX where LENGTH is 0
 //   NAME list ROOM LIST DATA                     prints NAME NUMBER POSITION LENGTH HEX, without HEX where LENGTH is 0
@@ -25,14 +26,19 @@ fn run(text: &[u8], data: &mut [u8], out: &mut [u8]) {
     }
 }
 
-// Reads the text of the cases and runs it, with rooms a little over the size of a data set.
-fn run_input(input: &mut [u8; 262144], data: &mut [u8; 1048640], out: &mut [u8; 1048640]) {
+// Reads the text of the cases and runs it, with rooms a little over the size of a data set. The text may be as long as a case of the
+// largest data set in hex, and a little more; of a longer one nothing is run.
+fn run_input(input: &mut [u8; 2228224], data: &mut [u8; 1048640], out: &mut [u8; 1048640]) {
     let n = io::read_full(libc::STDIN_FILENO, input);
+    if n == input.len() {
+        print::text(b"input over 2228223 bytes\n");
+        return;
+    }
     run(words::first(input, n), data, out);
 }
 
 fn main() {
-    let mut input = [0u8; 262144];
+    let mut input = [0u8; 2228224];
     let mut data = [0u8; 1048640];
     let mut out = [0u8; 1048640];
     run_input(&mut input, &mut data, &mut out);
