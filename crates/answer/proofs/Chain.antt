@@ -4,7 +4,7 @@ use mathlib.Core.Path.{_≡_, refl, sym, _∙_}
 use mathlib.Core.Logic.{_≢_}
 use mathlib.Core.Bool.{Bool, true, false, false≢true}
 use lib.Dec.{eqb}
-use borrow.Author.Tests.{eqb-true, eq-eqb}
+use borrow.Author.Tests.{eqb-true, eq-eqb, ne-eqb}
 use Rattle.answer.specs.If.{if_then_else_}
 use Rattle.answer.specs.Answer.{accepted, refused, _orElse_}
 use Rattle.answer.specs.declared.Answer.{Answer}
@@ -13,6 +13,20 @@ use Rattle.answer.specs.declared.Answer.{Answer}
 pub or-else-second : (a b : Answer) → a .number ≡ 0 → (a orElse b) ≡ b
 unfolding _orElse_ if_then_else_
 or-else-second a b h = rw (eq-eqb (a .number) 0 h)
+
+-- where the first is refused it stands
+pub or-else-first : (a b : Answer) → (a .number ≡ 0 → ⊥) → (a orElse b) ≡ a
+unfolding _orElse_ if_then_else_
+or-else-first a b h = rw (ne-eqb (a .number) 0 h)
+
+pub or-else-assoc : (a b c : Answer) → ((a orElse b) orElse c) ≡ (a orElse (b orElse c))
+unfolding _orElse_ if_then_else_
+or-else-assoc a b c = go (eqb (a .number) 0) refl
+  where
+    go : (x : Bool) → eqb (a .number) 0 ≡ x
+        → (if eqb ((if x then b else a) .number) 0 then c else (if x then b else a)) ≡ (if x then (if eqb (b .number) 0 then c else b) else a)
+    go true e = refl
+    go false e = rw e
 
 -- what holds of the first, and of the second where the first is accepted, holds of the chain
 pub or-else-holds : (P : Answer → Type 0) (a b : Answer) → P a → (a .number ≡ 0 → P b) → P (a orElse b)

@@ -28,8 +28,6 @@ pub mod MergeSteps
 pub mod Finding
 pub mod Merge
 pub mod ListSteps
-pub mod Refusals
-pub mod WrittenUnknown
 pub mod ListModeSteps
 pub mod CheckSteps
 pub mod TextSteps

@@ -23,8 +23,8 @@ use Rattle.mac.specs.Content.{content}
 use Rattle.mac.specs.Stream.{listedStream}
 use Rattle.mac.specs.ListMode.{tagsAnswer, Call, treeOf, tree, contentOf, stream, badDigest, met, answer, isAccepted, outputAfter, Streamed, streamCall}
 use Rattle.mac.specs.Writer.{listedAnswer, ListedLeaves, ListWalk, measuredAnswer, callFor, StreamedFor}
-use Rattle.mac.proofs.Refusals.{refuses, passes, or-else-assoc, both}
-use Rattle.mac.proofs.WrittenUnknown.{never-met}
+use Rattle.answer.proofs.Chain.{or-else-first, or-else-second, or-else-assoc, both-accepted}
+use Rattle.mac.proofs.Listed.{never-met}
 
 -- ---- the tag list
 first-accepted : (b : Bool) (index : ℕ) (rest : Answer) → (rest .number ≡ 0 → rest ≡ accepted 0) → (if b then refused 11 index else rest) .number ≡ 0
@@ -42,8 +42,8 @@ ascending-accepted index least (tag ∷ tags) h =
 pub list-ascends : (l : List ℕ) (f : Answer) → f ≡ listAnswer l → f .number ≡ 0 → ascending 0 0 (tagsIn l) ≡ accepted 0
 unfolding listAnswer
 list-ascends l f e h =
-    let a = both (if badSize (length l) then refused 10 0 else accepted 0) (ascending 0 0 (tagsIn l) orElse unbarred 0 (tagsIn l)) (sym (ap (λ (x : Answer). x .number) e) ∙ h) in
-    ascending-accepted 0 0 (tagsIn l) (both (ascending 0 0 (tagsIn l)) (unbarred 0 (tagsIn l)) (a .second) .first)
+    let a = both-accepted (if badSize (length l) then refused 10 0 else accepted 0) (ascending 0 0 (tagsIn l) orElse unbarred 0 (tagsIn l)) (sym (ap (λ (x : Answer). x .number) e) ∙ h) in
+    ascending-accepted 0 0 (tagsIn l) (both-accepted (ascending 0 0 (tagsIn l)) (unbarred 0 (tagsIn l)) (a .second) .first)
 
 -- ---- the answer up to 15
 -- the answer of a reading, and of the tags in its tree
@@ -52,7 +52,7 @@ readAnswer tags d p = answerOf p orElse tagsAnswer 0 tags (treeOf p) orElse acce
 
 listed-is : (tags d : List ℕ) (p : Reading Elements) → dataSet d ≡ p → listedAnswer (accepted 0) 0 tags d p ≡ readAnswer tags d p
 unfolding listedAnswer readAnswer
-listed-is tags d (fault f) e = sym (refuses f _ λ z. omega (arith, faults-inside d f e .least))
+listed-is tags d (fault f) e = sym (or-else-first f _ λ z. omega (arith, faults-inside d f e .least))
 listed-is tags d (read es n) e = rw (zero-add (length (listedStream tags es d)))
 
 module _ (l d : List ℕ) where
@@ -63,15 +63,15 @@ module _ (l d : List ℕ) where
   module _ (h : length d ≤ sizeLimit) (f : Answer) (e : f ≡ listAnswer l) where
     measured-on : measuredAnswer l d ≡ (f orElse readAnswer (tagsIn l) d (dataSet d))
     unfolding measuredAnswer readAnswer if_then_else_
-    measured-on = rw (le-ltb sizeLimit (length d) h, ← e) (passes (accepted 0) _ refl)
+    measured-on = rw (le-ltb sizeLimit (length d) h, ← e) (or-else-second (accepted 0) _ refl)
 
     pub measured-list : (f .number ≡ 0 → ⊥) → f ≡ measuredAnswer l d
-    measured-list k = sym (measured-on ∙ refuses f _ k)
+    measured-list k = sym (measured-on ∙ or-else-first f _ k)
 
     pub measured-walk : (r : Answer) (xs ys : List ℕ) → f .number ≡ 0 → ListWalk l d r xs ys → r ≡ measuredAnswer l d
     measured-walk r xs ys k w =
         let s = data-set-is d h in
-        w .answers ∙ listed-is (tagsIn l) d (elementsAt explicit d false levels (length d) 0 0) s ∙ sym (measured-on ∙ passes f _ k ∙ rw s)
+        w .answers ∙ listed-is (tagsIn l) d (elementsAt explicit d false levels (length d) 0 0) s ∙ sym (measured-on ∙ or-else-second f _ k ∙ rw s)
 
 -- ---- where the answer up to 15 is accepted
 record Measured (l d : List ℕ) : Type 0 where
@@ -95,15 +95,15 @@ module _ (l d : List ℕ) (m : Answer) (e : m ≡ measuredAnswer l d) where
       let last = accepted (length (listedStream (tagsIn l) (tree d) d)) in
       let found = tagsAnswer 0 (tagsIn l) (tree d) in
       let size = if ltb sizeLimit (length d) then refused 1 0 else accepted 0 in
-      let a = both size (listAnswer l orElse answerOf (dataSet d) orElse found orElse last) (sym (ap (λ (x : Answer). x .number) e) ∙ h) in
-      let b = both (listAnswer l) (answerOf (dataSet d) orElse found orElse last) (a .second) in
-      let c = both (answerOf (dataSet d)) (found orElse last) (b .second) in
-      let f = both found last (c .second) in
+      let a = both-accepted size (listAnswer l orElse answerOf (dataSet d) orElse found orElse last) (sym (ap (λ (x : Answer). x .number) e) ∙ h) in
+      let b = both-accepted (listAnswer l) (answerOf (dataSet d) orElse found orElse last) (a .second) in
+      let c = both-accepted (answerOf (dataSet d)) (found orElse last) (b .second) in
+      let f = both-accepted found last (c .second) in
       record {
         small = not-over d (a .first);
         listed = b .first;
         found = f .first;
-        long = passes size _ (a .first) ∙ passes (listAnswer l) _ (b .first) ∙ passes (answerOf (dataSet d)) _ (c .first) ∙ passes found _ (f .first);
+        long = or-else-second size _ (a .first) ∙ or-else-second (listAnswer l) _ (b .first) ∙ or-else-second (answerOf (dataSet d)) _ (c .first) ∙ or-else-second found _ (f .first);
       }
 
   pub measured-ascends : m .number ≡ 0 → ascending 0 0 (tagsIn l) ≡ accepted 0
@@ -122,7 +122,7 @@ module _ (l d : List ℕ) (m : Answer) (e : m ≡ measuredAnswer l d) where
     unfolding answer stream contentOf measuredAnswer after
     answer-is = sym (rw e (
         or-else-assoc (if ltb sizeLimit (length d) then refused 1 0 else accepted 0) _ _
-        ∙ rw (or-else-assoc (listAnswer l), or-else-assoc (answerOf (dataSet d)), or-else-assoc (tagsAnswer 0 (tagsIn l) (tree d)), passes (accepted (length (listedStream (tagsIn l) (tree d) d))) after refl)
+        ∙ rw (or-else-assoc (listAnswer l), or-else-assoc (answerOf (dataSet d)), or-else-assoc (tagsAnswer 0 (tagsIn l) (tree d)), or-else-second (accepted (length (listedStream (tagsIn l) (tree d) d))) after refl)
         ))
 
     refused-as : (a : Answer) → answer (callFor l d out expected) ≡ a → (a .number ≡ 0 → ⊥) → Streamed (callFor l d out expected) out a out
@@ -135,11 +135,11 @@ module _ (l d : List ℕ) (m : Answer) (e : m ≡ measuredAnswer l d) where
     refused-for a q h = record { streamed = λ x b. refused-as out x a (q x b) h; long = λ z. absurd (h z); room = λ z. absurd (h z); small = λ z. absurd (h z) }
 
     pub into-refused : (m .number ≡ 0 → ⊥) → StreamedFor l d out bad m out
-    into-refused h = refused-for m (λ x b. answer-is out x ∙ refuses m _ h) h
+    into-refused h = refused-for m (λ x b. answer-is out x ∙ or-else-first m _ h) h
 
     module _ (h : m .number ≡ 0) where
       after-is : (x : Option (List ℕ)) → answer (callFor l d out x) ≡ after out x
-      after-is x = answer-is out x ∙ passes m _ h
+      after-is x = answer-is out x ∙ or-else-second m _ h
 
       pub into-bad : (a : Answer) → bad ≡ true → a ≡ refused 9 0 → StreamedFor l d out bad a out
       unfolding after _orElse_ if_then_else_
@@ -158,7 +158,7 @@ module _ (l d : List ℕ) (m : Answer) (e : m ≡ measuredAnswer l d) where
       unfolding after _orElse_ if_then_else_
       accepted-is t k x b =
           after-is x
-          ∙ rw (b, t, le-ltb (length out) (length (listedStream (tagsIn l) (tree d) d)) (omega (arith, long)), never-met 0 (tagsIn l) (tree d) d (measured h .found))
+          ∙ rw (b, t, le-ltb (length out) (length (listedStream (tagsIn l) (tree d) d)) (omega (arith, long)), never-met (tagsIn l) (tree d) d (measured h .found))
 
       -- the walk with the output of the call
       module _ (r : Answer) (ys : List ℕ) (w : ListWalk l d r out ys) where
