@@ -3,7 +3,7 @@ use Prim.Native.Nat.{ℕ, _+_, _-_, _*_}
 use mathlib.Core.List.{List}
 use lib.ListN.{getD, take, drop}
 
--- the two-byte number at i: "two bytes each, low byte first" (PS3.5, 7.3)
+-- the two-byte number at i, of group and element numbers, and lengths: "two bytes each, low byte first" (PS3.5, 7.3)
 unfoldable pub num16 : List ℕ → ℕ → ℕ
 num16 d i = getD d i 0 + 256 * getD d (i + 1) 0
 
@@ -15,9 +15,13 @@ num32 d i = num16 d i + 65536 * num16 d (i + 2)
 unfoldable pub tagAt : List ℕ → ℕ → ℕ
 tagAt d i = num16 d i * 65536 + num16 d (i + 2)
 
--- the VR of the element at i: "two letters of VR", as one number (`vr` of Vr.antt)
+-- a VR by the codes of its two letters, as one number
+abbrev pub vr : (first second : ℕ) → ℕ
+vr first second = first * 256 + second
+
+-- the VR of the element at i: "two letters of VR"
 unfoldable pub vrAt : List ℕ → ℕ → ℕ
-vrAt d i = getD d (i + 4) 0 * 256 + getD d (i + 5) 0
+vrAt d i = vr (getD d (i + 4) 0) (getD d (i + 5) 0)
 
 -- the bytes of d from offset `from` up to offset `to`
 unfoldable pub between : List ℕ → (from to : ℕ) → List ℕ

@@ -1,4 +1,15 @@
 -- The checks at one header, in the written order: 01, "Reading the data set". Assumes nothing.
+--
+-- at         the offset of the header
+-- stop       the end of the extent round it
+-- delimited  whether a delimiter closes that extent, before `stop` or at it; otherwise its length is defined, and it is filled up to `stop`
+-- start      the offset past the header: of the value, the items, the elements or the fragment's bytes
+-- left       16 less the level
+-- least      one more than the tag before in the same data set, or 0 where there is none
+--
+-- What stands there, with its fields (src/header.rt):
+-- ElementHeader  Refused number | End next | Value tag vr start end | Sequence tag start end delimited | Fragments tag start
+-- ItemHeader     Refused number | End next | Item start end delimited
 use Prim.Native.Nat.{ℕ, _+_, _-_, _%_}
 use mathlib.Core.Bool.{Bool, true, false, not, _&&_, _||_}
 use mathlib.Core.List.{List}
@@ -44,7 +55,8 @@ closedBy d delimiter delimited at = delimited && (eqb (tagAt d at) delimiter && 
 
 -- ---- an element
 
--- "length odd, or FFFFFFFF on a VR other than SQ and OB, 7"
+-- "length odd, or FFFFFFFF on a VR other than SQ and OB, 7"; "FFFFFFFF (undefined) is good for SQ and OB only": there it is not an odd
+-- length
 unfoldable pub badLength : (vr len : ℕ) → Bool
 badLength vr len = if eqb len undefined then not (eqb vr SQ || eqb vr OB) else eqb (len % 2) 1
 
@@ -52,7 +64,8 @@ badLength vr len = if eqb len undefined then not (eqb vr SQ || eqb vr OB) else e
 unfoldable pub tooDeep : (vr left : ℕ) → Bool
 tooDeep vr left = eqb vr SQ && eqb left 0
 
--- "FFFFFFFF (undefined) is good for SQ and OB only": it has no end of its own, and the extent's stands for it
+-- An undefined length. SQ: its items end before the extent's end. Otherwise OB, the only other VR that `badLength` lets pass: the reader of
+-- its fragments gets the extent.
 unfoldable pub undefinedBy : (tag vr stop start : ℕ) → ElementHeader
 undefinedBy tag vr stop start = if eqb vr SQ then element.Sequence tag start stop true else element.Fragments tag start
 
@@ -82,11 +95,11 @@ byForm Short d tag vr left stop at = valueBy tag vr left stop (at + 8) (num16 d 
 byForm Long d tag vr left stop at = longAt d tag vr left stop at
 byForm Neither d tag vr left stop at = element.Refused 5
 
+-- the checks from the VR on, by the VR that stands there
 unfoldable pub vrOnAt : List ℕ → (tag left stop at : ℕ) → ElementHeader
 vrOnAt d tag left stop at = byForm (formOf (vrAt d at)) d tag (vrAt d at) left stop at
 
 -- What stands at `at` in an element's place, in an extent that ends at `stop`, or before it at an item delimiter (`delimited`).
--- `left`: 16 less the level. `least`: one more than the tag before, or 0 where there is none.
 -- "fewer than 8 bytes left in the enclosing extent, 2" (the closing delimiter is "tested right after the 8-byte test");
 -- "group FFFE, 3; tag not above the tag before it in the same data set, 4; .."
 unfoldable pub elementAt : List ℕ → (delimited : Bool) (left stop at least : ℕ) → ElementHeader

@@ -91,7 +91,7 @@ byFragment refuse parts (place.Item start stop delimited) = do
 module _ (h : Headers) where
   -- The recursion counts down a number (fuel), one for each header on the way. Where it is used up the fault's number is 0, which
   -- `elementsAt` and the others below never give (`FuelSuffices`, `FaultsInside` and `FaultsOfOne` of Theorems.antt). `left` is 16 less the level: that of the data set that is read,
-  -- or that of the sequence or OB.
+  -- or that of the sequence or OB. Fragments: `left` is not used by the reading; it is there for the fault.
   unfoldable pub fragmentsBy : ℕ → List ℕ → (left stop at : ℕ) → Reading (List Span)
   fragmentsBy zero d left stop at = fault (refusal at 0)
   fragmentsBy (suc n) d left stop at = byFragment (refusal at) (fragmentsBy n d left stop) (h .item d false true stop at)
@@ -155,21 +155,23 @@ answerOf (read a next) = answer.accepted 0
 abbrev pub WellFormed : List ℕ → Type 0
 WellFormed d = answerOf (dataSet d) ≡ answer.accepted 0
 
--- ---- what the readers of the code answer of a reading
+-- ---- what the reader of one element answers of a reading
+
+-- the fault, the end, or an element with what the tree has of it beside its inside; OneOutcome, with its fields (src/reading.rt):
+-- Refused answer | End next | Element tag vr start end next
+abbrev pub oneOutcomeOf : Reading One → OneOutcome
+oneOutcomeOf (fault f) = one.Refused f
+oneOutcomeOf (read ended next) = one.End next
+oneOutcomeOf (read (element e) next) = one.Element (tagOf e) (vrOf e) (spanOf e .start) (spanOf e .end) next
+
+-- ---- no part of what a reader must believe, for inner contracts
 
 -- the fault, or the offset past what was read
 abbrev pub outcomeOf : {A : Type 0} → Reading A → Outcome
 outcomeOf (fault f) = outcome.Refused f
 outcomeOf (read a next) = outcome.Next next
 
--- the fault, the end, or an element with what the tree has of it beside its inside
-abbrev pub oneOutcomeOf : Reading One → OneOutcome
-oneOutcomeOf (fault f) = one.Refused f
-oneOutcomeOf (read ended next) = one.End next
-oneOutcomeOf (read (element e) next) = one.Element (tagOf e) (vrOf e) (spanOf e .start) (spanOf e .end) next
-
--- ---- no part of what a reader must believe, for an inner contract: an element that holds items or fragments, by what their reader answers
-
+-- an element that holds items or fragments, by what their reader answers
 abbrev pub PastDelimiter : Outcome → Type 0
 PastDelimiter (outcome.Refused f) = Unit {0}
 PastDelimiter (outcome.Next next) = 8 ≤ next

@@ -12,7 +12,8 @@ pub record Span : Type 0 where
 abbrev pub span : (start end : ℕ) → Span
 span start end = record { start = start; end = end }
 
--- An element has the offset of its header, its tag, and where its value lies, without a closing delimiter. An item has the offset of its header.
+-- An element has the offset of its header, its tag, and where its value lies, without a closing delimiter; a `value` has its VR too. An item
+-- has the offset of its header.
 mutual
   pub data Element : Type 0 where
     value : (at tag vr : ℕ) (span : Span) → Element

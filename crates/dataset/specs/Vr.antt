@@ -1,15 +1,12 @@
 -- The VRs: 01, "Reading the data set", the lists of the short and the long form. Assumes nothing.
-use Prim.Native.Nat.{ℕ, _+_, _*_}
+use Prim.Native.Nat.{ℕ}
 use mathlib.Core.Bool.{Bool, false, _||_}
 use mathlib.Core.List.{List, [], _∷_}
 use lib.Dec.{eqb}
 use Rattle.answer.specs.If.{if_then_else_}
+use Rattle.dataset.specs.Bytes.{vr}
 use Rattle.dataset.specs.declared.vr.Form.{Form}
 use Rattle.dataset.specs.declared.vr.Form.the-variants.{Short, Long, Neither}
-
--- a VR by the codes of its two letters, as one number
-abbrev pub vr : (first second : ℕ) → ℕ
-vr first second = first * 256 + second
 
 -- the letters' codes (ISO 646)
 abbrev A : ℕ

@@ -1,4 +1,4 @@
-// Numbers, tags and VRs in a data set, low byte first.
+// Numbers, tags and VRs in a data set: a number's low byte first, a VR's first letter first.
 ghost use mathlib.Core.Path.{_≡_};
 ghost use Prim.Native.Nat.{_+_, _<_, _≤_};
 ghost use lib.ListN.{length};

@@ -191,7 +191,7 @@ fn vr_on(d: &[u8], tag: u32, left: u32, stop: usize, at: usize) -> ElementHeader
 
 // What stands at `at` in an element's place: the checks at one element, in their order. The extent ends at `stop`, or before
 // it at an item delimiter (`delimited`); `left` is how many levels of sequences may follow, and `least` the least tag that
-// is above the one before.
+// is above the one before. A stop past the data, or an at past stop, is 2.
 pub fn header(
     d: &[u8],
     delimited: bool,
@@ -256,7 +256,7 @@ fn item_by(in_sequence: bool, stop: usize, start: usize, len: usize) -> ItemHead
 }
 
 // What stands at `at` in the place of an item of a sequence (`in_sequence`) or of a fragment. The extent ends at `stop`, or
-// before it at a sequence delimiter (`delimited`).
+// before it at a sequence delimiter (`delimited`). A stop past the data, or an at past stop, is 2.
 pub fn item_header(
     d: &[u8],
     in_sequence: bool,

@@ -10,6 +10,12 @@ ghost use Prim.Native.Nat.{_<_, _≤_};
 ghost use lib.ListN.{length};
 ghost use Rattle.dataset.specs.Reading.{explicit, elementsAt, itemsAt, fragmentsAt, oneAt, outcomeOf, oneOutcomeOf, PastDelimiter, holdingOf, answerOf, dataSet};
 
+// How many bytes a data set may have.
+pub const SIZE_LIMIT: usize = 1048576;
+
+// How many levels of sequences may follow at the top.
+pub const LEVELS: u32 = 16;
+
 // What a reader answers: the first fault, or the offset past what it read.
 pub(crate) enum Outcome {
     Refused(Answer),
@@ -79,7 +85,8 @@ fn holding(tag: u32, vr: u16, start: usize, delimited: bool, inside: Outcome) ->
     }
 }
 
-// Reads what stands at `at` in an element's place: its header, and its items or fragments.
+// Reads what stands at `at` in an element's place: its header, and its items or fragments. Parameters as of header::header; a
+// stop past the data, or an at past stop, is 2 at `at`. A caller passes at most LEVELS for `left`: the stack grows with it.
 pub fn read_one(
     d: &[u8],
     delimited: bool,
@@ -169,11 +176,6 @@ fn read_items(d: &[u8], delimited: bool, left: u32, stop: usize, from: usize) ->
         }
     }
 }
-
-pub const SIZE_LIMIT: usize = 1048576;
-
-// How many levels of sequences may follow at the top.
-pub const LEVELS: u32 = 16;
 
 // Reads a data set: its first fault from the left, or number 0.
 pub fn read(d: &[u8]) -> Answer
