@@ -4,6 +4,7 @@ use mathlib.Core.Path.{_≡_, refl, sym, ap, ap₂, _∙_}
 use mathlib.Core.Bool.{Bool, true, false}
 use mathlib.Core.List.{List}
 use mathlib.Core.Option.{some}
+use native.Mathlib.Omega.{arith}
 use lib.Dec.{eqb}
 use lib.ListN.{length, take}
 use borrow.Author.Tests.{eqb-true, eq-eqb}
@@ -18,7 +19,7 @@ use Rattle.mac.specs.Content.{SignedElements}
 use Rattle.mac.specs.ListMode.{Call, tree, contentOf, stream, answer, isAccepted, compared, verdictOf, streamCall, checkCall, Streamed, CheckedAs}
 use Rattle.mac.specs.declared.verdict.Checked.{Checked}
 use Rattle.mac.specs.declared.verdict.Verdict.the-variants as verdict
-use Rattle.mac.specs.Injectivity.{Bytes, Accepted, signedInFragments, on, FirstHalf, SecondHalf, Run, written, FirstHalfOfCalls, SecondHalfOfCalls}
+use Rattle.mac.specs.Injectivity.{Bytes, Accepted, signedInFragments, on, FirstHalf, SecondHalf, Run, written, FirstHalfOfCalls, SecondHalfOfCalls, StreamRuns, CheckRuns, AcceptedContent, Demand3}
 use Rattle.mac.proofs.Encoding.{encodeElements}
 use Rattle.mac.proofs.Decoding.{ElementsDecodable, injective}
 use Rattle.mac.proofs.Decodable.{WithinSize}
@@ -121,8 +122,7 @@ second-half c d b b′ h w same none = record { answers = answers; verdict = sam
 -- ---- of the calls themselves
 
 -- what the functions promise makes a run
-pub streamed-run : (list set out after : List ℕ) (r : Answer) → Streamed (streamCall list set out) out r after
-    → Run (streamCall list set out) out (record { answer = r; verdict = verdict.Neither }) after
+pub streamed-run : StreamRuns
 unfolding verdictOf if_then_else_
 streamed-run list set out after r u = record { room = refl; answers = u .answers; says = go (isAccepted (streamCall list set out)); output = u .output }
   where
@@ -130,8 +130,7 @@ streamed-run list set out after r u = record { room = refl; answers = u .answers
     go true = refl
     go false = refl
 
-pub checked-run : (list set expected work after : List ℕ) (r : Checked) → CheckedAs (checkCall list set expected work) work r after
-    → Run (checkCall list set expected work) work r after
+pub checked-run : CheckRuns
 checked-run list set expected work after r u = record { room = refl; answers = u .answers; says = u .says; output = u .output }
 
 module _ (c : Call) (out after : List ℕ) (r : Checked) (u : Run c out r after) where
@@ -161,4 +160,24 @@ second-half-of-calls c s out out′ after after′ r r′ u u′ b b′ h w same
       answers = q;
       verdict = u′ .says ∙ f .verdict ∙ sym (u .says);
       streams = written-stream (on c s) out′ after′ r′ u′ a′ ∙ f .streams ∙ sym (written-stream c out after r u a);
+    }
+
+accepted-content : AcceptedContent
+unfolding contentOf
+accepted-content c h e =
+    let a = accepts c (eqb-true (answer c .number) 0 h) in
+    let r = has-content (tagsIn (c .list)) 0 (tree (c .set)) (c .set) (a .tags) in
+    let z : _≡_ {A = ℕ} 0 1 = cc (r .is, e) in
+    omega arith
+
+pub demand-3 : Demand3
+demand-3 =
+    record {
+      first-half = first-half;
+      second-half = second-half;
+      stream-runs = streamed-run;
+      check-runs = checked-run;
+      first-half-of-calls = first-half-of-calls;
+      second-half-of-calls = second-half-of-calls;
+      accepted-content = accepted-content;
     }

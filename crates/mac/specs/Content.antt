@@ -13,7 +13,7 @@ use Rattle.dataset.specs.Lookup.{find}
 use Rattle.mac.specs.TagList.{barred}
 
 mutual
-  -- an element's tag and VR with its value. "A row of fragments and a value of bytes are never the same value, even when both are empty."
+  -- an element's tag and VR with its value; the VR of a sequence is SQ and that of fragments OB, so it is not said again. "A row of fragments and a value of bytes are never the same value, even when both are empty."
   pub data SignedElement : Type 0 where
     value : (tag vr : ℕ) (bytes : List ℕ) → SignedElement
     sequence : (tag : ℕ) (items : SignedItems) → SignedElement
@@ -24,7 +24,7 @@ mutual
     none : SignedElements
     and : (first : SignedElement) (rest : SignedElements) → SignedElements
 
-  -- "the row of items, each the row of its elements"
+  -- "the row of items, each the row of its elements"; `last`: no item more
   pub data SignedItems : Type 0 where
     last : SignedItems
     item : (elements : SignedElements) (rest : SignedItems) → SignedItems

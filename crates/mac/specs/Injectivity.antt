@@ -1,9 +1,10 @@
--- Demand 3, for every call in list mode, for the stream or for the check: equal streams exactly when equal signed contents, and the same answer and stream for any other
--- well-formed data set with the same signed content. Proved in proofs/Injectivity.
+-- Demand 3, for every call in list mode, for the stream or for the check. First half: two accepted calls with nothing signed in fragments have equal streams exactly when they have
+-- equal signed contents. Second half: any other well-formed data set with the same signed content, and no UN inside a listed sequence, gets the same answer, verdict and stream.
+-- All of it is the record Demand3, proved in proofs/Injectivity.
 -- Assumes nothing.
 use Prim.Native.Nat.{ℕ, _<_}
 use mathlib.Core.Path.{_≡_}
-use mathlib.Core.Logic.{_↔_}
+use mathlib.Core.Logic.{_↔_, _≢_}
 use mathlib.Core.Bool.{Bool, true, false, _||_}
 use mathlib.Core.List.{List, [], _∷_}
 use mathlib.Core.Option.{Option, some}
@@ -14,10 +15,12 @@ use Rattle.dataset.specs.Reading.{WellFormed}
 use Rattle.dataset.specs.Lookup.{find}
 use Rattle.mac.specs.TagList.{tagsIn}
 use Rattle.mac.specs.Content.{SignedElements, someInFragments}
-use Rattle.mac.specs.ListMode.{holdsUN, Call, tree, contentOf, stream, answer, isAccepted, verdictOf, outputAfter}
+use Rattle.answer.specs.declared.Answer.{Answer}
+use Rattle.mac.specs.ListMode.{holdsUN, Call, tree, contentOf, stream, answer, isAccepted, verdictOf, outputAfter, streamCall, checkCall, Streamed, CheckedAs}
+use Rattle.mac.specs.declared.verdict.Verdict.the-variants as verdict
 use Rattle.mac.specs.declared.verdict.Checked.{Checked}
 
--- a list of bytes
+-- a list of bytes: a slice of the code's bytes is one; the definitions speak of numbers
 abbrev pub Bytes : List ℕ → Type 0
 Bytes s = (i : ℕ) → getD s i 0 < 256
 
@@ -89,3 +92,27 @@ SecondHalfOfCalls =
     (c : Call) (s out out′ after after′ : List ℕ) (r r′ : Checked) → Run c out r after → Run (on c s) out′ r′ after′ → Bytes (c .set) → Bytes s
     → r .answer .number ≡ 0 → WellFormed s → contentOf (on c s) ≡ contentOf c → listedHoldUN (tagsIn (c .list)) (tree s) ≡ false
     → SameRun r r′ after after′
+
+-- What `list_stream` and `list_check` promise is such a run: so the two halves speak of what they give back.
+abbrev pub StreamRuns : Type 0
+StreamRuns =
+    (list set out after : List ℕ) (r : Answer) → Streamed (streamCall list set out) out r after
+    → Run (streamCall list set out) out (record { answer = r; verdict = verdict.Neither }) after
+
+abbrev pub CheckRuns : Type 0
+CheckRuns =
+    (list set expected work after : List ℕ) (r : Checked) → CheckedAs (checkCall list set expected work) work r after
+    → Run (checkCall list set expected work) work r after
+
+-- an accepted call has a signed content: its data set is well-formed and holds every listed tag
+abbrev pub AcceptedContent : Type 0
+AcceptedContent = (c : Call) → Accepted c → contentOf c ≢ Opt.none
+
+pub record Demand3 : Type 0 where
+  pub first-half : FirstHalf
+  pub second-half : SecondHalf
+  pub stream-runs : StreamRuns
+  pub check-runs : CheckRuns
+  pub first-half-of-calls : FirstHalfOfCalls
+  pub second-half-of-calls : SecondHalfOfCalls
+  pub accepted-content : AcceptedContent

@@ -54,7 +54,7 @@ unfoldable pub tagsAnswer : (index : ℕ) (tags : List ℕ) → Elements → Ans
 tagsAnswer index [] es = accepted 0
 tagsAnswer index (tag ∷ tags) es = elementAnswer index (find tag es) orElse tagsAnswer (index + 1) tags es
 
--- ---- UN in what is written
+-- ---- UN in what is written: in the signed content, so without barred elements (`holdsUN` looks into these too)
 
 unfoldable mutual
   pub writesUN : SignedElement → Bool
@@ -95,7 +95,7 @@ treeOf (Reading.read es next) = es
 abbrev pub tree : List ℕ → Elements
 tree d = treeOf (dataSet d)
 
--- "A call's signed content is that of its list in its data set."
+-- "A call's signed content is that of its list in its data set." Where the data set is refused, or a tag absent, this value is not used.
 unfoldable pub contentOf : Call → Option SignedElements
 contentOf c = content (tagsIn (c .list)) (tree (c .set)) (c .set)
 
@@ -108,11 +108,13 @@ abbrev pub badDigest : Option (List ℕ) → Bool
 badDigest Opt.none = false
 badDigest (some e) = not (eqb (length e) 32)
 
+-- no content, nothing is written: such a call is refused before
 abbrev pub met : Option SignedElements → Bool
 met Opt.none = false
 met (some es) = metInSequence es
 
 -- "List mode: 1, 10, 11 over the whole list, 12 over the whole list, 2 to 8, then tag by tag 13, 14, 15; then 9, 16, 17."
+-- 1 stands in `dataSet` too; here it comes before the list.
 unfoldable pub answer : Call → Answer
 answer c =
     (if ltb sizeLimit (length (c .set)) then refused 1 0 else accepted 0)

@@ -45,7 +45,7 @@ unfoldable mutual
   itemsStream Items.last d = endMark
   itemsStream (Items.item at elements rest) d = between d at (at + 4) ++ (elementsStream elements d ++ itemsStream rest d)
 
--- "Listed elements follow in list order."
+-- "Listed elements follow in list order." (Of an absent tag there is none: 13 comes before.)
 abbrev pub foundStream : Option Element → List ℕ → List ℕ
 foundStream Opt.none d = []
 foundStream (some e) d = streamOf e d

@@ -9,7 +9,7 @@ use Rattle.answer.specs.declared.Answer.{Answer}
 use Rattle.answer.specs.If.{if_then_else_}
 use Rattle.answer.specs.Answer.{accepted, refused, _orElse_}
 
--- "Four bytes a tag, coded as above": group and then element number, low byte first
+-- "Four bytes a tag, coded as above": group and then element number, low byte first. Bytes left over are not seen: 10 comes before.
 unfoldable pub tagsIn : List ℕ → List ℕ
 tagsIn (a ∷ b ∷ c ∷ d ∷ rest) = ((a + 256 * b) * 65536 + (c + 256 * d)) ∷ tagsIn rest
 tagsIn [] = []
@@ -32,7 +32,7 @@ barred tag =
 unfoldable pub badSize : (bytes : ℕ) → Bool
 badSize bytes = eqb bytes 0 || (ltb (4 * 1024) bytes || ltb 0 (bytes % 4))
 
--- 11: "a tag not above the one before it", the first that fits; `index` is that of the first tag here, and `least` the least that is above the one before it
+-- 11: "a tag not above the one before it", the first that fits; `index` is that of the first tag here, and `least` the least that is above the one before it (0 before the first)
 unfoldable pub ascending : (index least : ℕ) → List ℕ → Answer
 ascending index least [] = accepted 0
 ascending index least (tag ∷ tags) = if ltb tag least then refused 11 index else ascending (index + 1) (tag + 1) tags
