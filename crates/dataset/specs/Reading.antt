@@ -90,8 +90,9 @@ byFragment refuse parts (place.Item start stop delimited) = do
 
 module _ (h : Headers) where
   -- The recursion counts down a number (fuel), one for each header on the way. Where it is used up the fault's number is 0, which
-  -- `elementsAt` and the others below never give (`FuelSuffices`, `FaultsInside` and `FaultsOfOne` of Theorems.antt). `left` is 16 less the level: that of the data set that is read,
-  -- or that of the sequence or OB. Fragments: `left` is not used by the reading; it is there for the fault.
+  -- `elementsAt` and the others below never give (`FuelSuffices`, `FaultsInside` and `FaultsOfOne` of Theorems.antt).
+  -- `left` is 16 less the level: that of the data set that is read, or that of the sequence or OB. Of fragments it is not used by the
+  -- reading; it is there for the fault.
   unfoldable pub fragmentsBy : ℕ → List ℕ → (left stop at : ℕ) → Reading (List Span)
   fragmentsBy zero d left stop at = fault (refusal at 0)
   fragmentsBy (suc n) d left stop at = byFragment (refusal at) (fragmentsBy n d left stop) (h .item d false true stop at)
@@ -171,11 +172,12 @@ abbrev pub outcomeOf : {A : Type 0} → Reading A → Outcome
 outcomeOf (fault f) = outcome.Refused f
 outcomeOf (read a next) = outcome.Next next
 
--- an element that holds items or fragments, by what their reader answers
+-- what was read has room for a closing delimiter, of 8 bytes
 abbrev pub PastDelimiter : Outcome → Type 0
 PastDelimiter (outcome.Refused f) = Unit {0}
 PastDelimiter (outcome.Next next) = 8 ≤ next
 
+-- an element that holds items or fragments, by what their reader answers
 unfoldable pub holdingOf : (tag vr start : ℕ) (delimited : Bool) → Outcome → OneOutcome
 holdingOf tag vr start delimited (outcome.Refused f) = one.Refused f
 holdingOf tag vr start delimited (outcome.Next next) = one.Element tag vr start (if delimited then next - 8 else next) next

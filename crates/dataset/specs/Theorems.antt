@@ -36,8 +36,8 @@ FaultsOfOne =
     (d : List ℕ) (delimited : Bool) (left stop at least : ℕ) (f : Answer) → at ≤ stop → stop ≤ length d
     → oneAt explicit d delimited left stop at least ≡ fault f → Refusal 2 at stop f
 
--- The elements of the tree fill the data set: they lie in order, each part in the extent of what holds it, with ascending tags, and
--- sequences at levels 0 to 15.
+-- The elements of the tree fill the data set, so that `next` is its length: they lie in order, each part in the extent of what holds it,
+-- with ascending tags, and sequences at levels 0 to 15.
 abbrev pub InOrder : Type 0
 InOrder = (d : List ℕ) (es : Elements) (next : ℕ) → dataSet d ≡ read es next → ElementsFill es d false levels (length d) 0 0 next
 
