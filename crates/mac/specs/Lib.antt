@@ -7,5 +7,6 @@ pub mod Frame
 pub mod Injectivity
 pub mod Theorems
 pub mod Examples
+-- for inner contracts only; a reader need not believe them
 pub mod Writer
 pub mod Wrote
