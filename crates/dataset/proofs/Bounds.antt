@@ -2,7 +2,7 @@
 use Prim.Native.Nat.{ℕ, _+_, _-_, _%_, _≤_, _<_}
 use mathlib.Core.Path.{_≡_, refl, sym, ap, _∙_}
 use mathlib.Core.Logic.{_≢_}
-use mathlib.Core.Bool.{Bool, true, false, not, _&&_, _||_, true≢false, false≢true}
+use mathlib.Core.Bool.{Bool, true, false, not, _&&_, true≢false, false≢true}
 use mathlib.Core.List.{List}
 use native.Mathlib.Omega.{arith}
 use borrow.Author.Tests.{ltb-false, eqb-true, eqb-false}
@@ -13,42 +13,13 @@ use Rattle.dataset.specs.Bytes.{num16, num32, tagAt, vrAt}
 use Rattle.dataset.specs.Vr.{formOf, oneOf, OB, SQ}
 use Rattle.dataset.specs.Header.{undefined, itemTag, itemDelimiter, sequenceDelimiter, outside, badLength, tooDeep, undefinedBy, definedBy, valueBy, longAt, byForm, vrOnAt, itemBy, endsAt, closedBy, elementAt, itemAt}
 use Rattle.dataset.specs.Order.{Tagged, Sized, ValueAt, NestAt, Extent, EndsIn}
-use Rattle.dataset.specs.Reading.{Headers, explicit}
 use Rattle.dataset.specs.declared.vr.Form.{Form}
 use Rattle.dataset.specs.declared.vr.Form.the-variants.{Short, Long, Neither}
 use Rattle.dataset.specs.declared.header.ElementHeader.{ElementHeader}
 use Rattle.dataset.specs.declared.header.ElementHeader.the-variants as element
 use Rattle.dataset.specs.declared.header.ItemHeader.{ItemHeader}
 use Rattle.dataset.specs.declared.header.ItemHeader.the-variants as item
-
--- a property of both arms, each where its test holds, is one of the choice
-pub choose : {A : Type 0} (P : A → Type 0) (b : Bool) {x y : A} → (b ≡ true → P x) → (b ≡ false → P y) → P (if b then x else y)
-unfolding if_then_else_
-choose P true f g = f refl
-choose P false f g = g refl
-
--- ---- tests on Bools
-pub and-right : (a b : Bool) → (a && b) ≡ false → a ≡ true → b ≡ false
-and-right true b e t = e
-and-right false b e t = absurd (false≢true t)
-
-both : (a b : Bool) → (a && b) ≡ true → (a ≡ true) × (b ≡ true)
-both true b e = (refl, e)
-both false b e = absurd (false≢true e)
-
-neither : (a b : Bool) → (a || b) ≡ false → (a ≡ false) × (b ≡ false)
-neither true b e = absurd (true≢false e)
-neither false b e = (refl, e)
-
-not-false : (b : Bool) → not b ≡ false → b ≡ true
-not-false true e = refl
-not-false false e = absurd (true≢false e)
-
-not-true : (b : Bool) → not b ≡ true → b ≡ false
-not-true true e = absurd (false≢true e)
-not-true false e = refl
-
--- ---- what a header guarantees
+use Rattle.dataset.proofs.Bools.{choose, and-right, both, neither, not-false, not-true}
 
 -- a refusal that a header gives
 abbrev pub Number : ℕ → Type 0
@@ -264,38 +235,3 @@ item-facts d inSequence delimited stop at =
     choose P (closedBy d sequenceDelimiter delimited at) (λ e. closed-facts d sequenceDelimiter delimited stop at m e) λ e3.
     choose P (not (eqb (tagAt d at) itemTag)) (λ e. omega arith) λ e4.
     item-by-facts d inSequence delimited stop at _ refl (eqb-true (tagAt d at) itemTag (not-false (eqb (tagAt d at) itemTag) e4)) (omega arith)
-
--- ---- what the recursion needs of the headers it is defined over
-abbrev pub ElementIn : (stop at : ℕ) → ElementHeader → Type 0
-ElementIn stop at (element.Refused number) = Number number
-ElementIn stop at (element.End next) = (at ≤ next) × (next ≤ stop)
-ElementIn stop at (element.Value tag vr start end) = (at < end) × (end ≤ stop)
-ElementIn stop at (element.Sequence tag start end inner) = (at < start) × (start ≤ end) × (end ≤ stop)
-ElementIn stop at (element.Fragments tag start) = (at < start) × (start ≤ stop)
-
-abbrev pub ItemIn : (stop at : ℕ) → ItemHeader → Type 0
-ItemIn stop at (item.Refused number) = Number number
-ItemIn stop at (item.End next) = (at ≤ next) × (next ≤ stop)
-ItemIn stop at (item.Item start end inner) = (at < start) × (start ≤ end) × (end ≤ stop)
-
-pub record Bounded (h : Headers) : Type 0 where
-  pub element-in : (d : List ℕ) (delimited : Bool) (left stop at least : ℕ) → ElementIn stop at (h .element d delimited left stop at least)
-  pub item-in : (d : List ℕ) (inSequence delimited : Bool) (stop at : ℕ) → ItemIn stop at (h .item d inSequence delimited stop at)
-
-pub explicit-bounded : Bounded explicit
-explicit-bounded = record {
-  element-in = λ d delimited left stop at least. from d delimited left stop at least (elementAt d delimited left stop at least) (element-facts d delimited left stop at least);
-  item-in = λ d inSequence delimited stop at. from-item d inSequence delimited stop at (itemAt d inSequence delimited stop at) (item-facts d inSequence delimited stop at);
-}
-  where
-    from : (d : List ℕ) (delimited : Bool) (left stop at least : ℕ) (p : ElementHeader) → ElementFacts d delimited left stop at least p → ElementIn stop at p
-    from d delimited left stop at least (element.Refused number) f = f
-    from d delimited left stop at least (element.End next) f = (f .order, f .inside)
-    from d delimited left stop at least (element.Value tag vr start end) f = omega (arith, f .1 .header, f .1 .order, f .1 .inside)
-    from d delimited left stop at least (element.Sequence tag start end inner) f = omega (arith, f .1 .starts, f .2, f .3)
-    from d delimited left stop at least (element.Fragments tag start) f = omega (arith, f .1 .starts, f .1 .inside)
-
-    from-item : (d : List ℕ) (inSequence delimited : Bool) (stop at : ℕ) (p : ItemHeader) → ItemFacts d inSequence delimited stop at p → ItemIn stop at p
-    from-item d inSequence delimited stop at (item.Refused number) f = f
-    from-item d inSequence delimited stop at (item.End next) f = (f .order, f .inside)
-    from-item d inSequence delimited stop at (item.Item start end inner) f = omega (arith, f .0 .starts, f .0 .order, f .0 .inside)

@@ -1,5 +1,7 @@
 pub mod Checks
+pub mod Bools
 pub mod Bounds
+pub mod Bounded
 pub mod Unfolding
 pub mod Outcomes
 pub mod OneSteps

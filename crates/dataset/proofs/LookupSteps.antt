@@ -17,7 +17,7 @@ use Rattle.dataset.specs.Lookup.{find, absent, present, foundOf, foundIn
 use Rattle.dataset.specs.declared.lookup.Found.{Found}
 use Rattle.dataset.specs.declared.reading.OneOutcome.{OneOutcome}
 use Rattle.dataset.specs.declared.reading.OneOutcome.the-variants as one
-use Rattle.dataset.proofs.Bounds.{explicit-bounded}
+use Rattle.dataset.proofs.Bounded.{explicit-bounded}
 use Rattle.dataset.proofs.Unfolding.{elements-are}
 use Rattle.dataset.proofs.Outcomes.{IsElement, is-element, is-one-fault, is-one-end}
 use Rattle.dataset.proofs.Steps.{one-past, data-set-is, data-set-over}

@@ -10,7 +10,7 @@ use Rattle.dataset.specs.Reading.{Reading, fault, read, _>>=_, One, ende
 use Rattle.dataset.specs.declared.reading.Outcome.{Outcome}
 use Rattle.dataset.specs.declared.reading.Outcome.the-variants as outcome
 use Rattle.dataset.specs.declared.reading.OneOutcome.the-variants as one
-use Rattle.dataset.proofs.Bounds.{explicit-bounded}
+use Rattle.dataset.proofs.Bounded.{explicit-bounded}
 use Rattle.dataset.proofs.Unfolding.{Within, fragments-within, elements-within, items-within}
 
 -- ---- what a reader answers of one reading after another

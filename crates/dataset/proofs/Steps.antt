@@ -19,7 +19,8 @@ use Rattle.dataset.specs.declared.reading.Outcome.{Outcome}
 use Rattle.dataset.specs.declared.reading.Outcome.the-variants as outcome
 use Rattle.dataset.specs.declared.reading.OneOutcome.{OneOutcome}
 use Rattle.dataset.specs.declared.reading.OneOutcome.the-variants as one
-use Rattle.dataset.proofs.Bounds.{ItemFacts, item-facts, explicit-bounded}
+use Rattle.dataset.proofs.Bounds.{ItemFacts, item-facts}
+use Rattle.dataset.proofs.Bounded.{explicit-bounded}
 use Rattle.dataset.proofs.Unfolding.{OneIn, one-in, fragments-are, elements-are, items-are}
 use Rattle.dataset.proofs.Outcomes.{last, then-next, is-fault, is-read, elements-next, is-one-fault, is-one-end, IsElement, is-element}
 

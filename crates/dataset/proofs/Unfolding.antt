@@ -12,7 +12,8 @@ use Rattle.dataset.specs.declared.header.ElementHeader.{ElementHeader}
 use Rattle.dataset.specs.declared.header.ElementHeader.the-variants as header
 use Rattle.dataset.specs.declared.header.ItemHeader.{ItemHeader}
 use Rattle.dataset.specs.declared.header.ItemHeader.the-variants as place
-use Rattle.dataset.proofs.Bounds.{Number, ElementIn, ItemIn, Bounded}
+use Rattle.dataset.proofs.Bounds.{Number}
+use Rattle.dataset.proofs.Bounded.{ElementIn, ItemIn, Bounded}
 
 -- ---- where faults lie, and what follows what was read
 

@@ -15,7 +15,8 @@ use Rattle.dataset.specs.Tree.{Span, span}
 use Rattle.dataset.specs.Reading.{Reading, fault, read, _>>=_, explicit, refusal, byFragment, fragmentsAt}
 use Rattle.dataset.specs.declared.header.ItemHeader.{ItemHeader}
 use Rattle.dataset.specs.declared.header.ItemHeader.the-variants as place
-use Rattle.dataset.proofs.Bounds.{ItemFacts, item-facts, explicit-bounded}
+use Rattle.dataset.proofs.Bounds.{ItemFacts, item-facts}
+use Rattle.dataset.proofs.Bounded.{explicit-bounded}
 use Rattle.dataset.proofs.Unfolding.{fragments-are}
 use Rattle.mac.specs.Stream.{itemMark, endMark, fragmentsStream}
 use Rattle.mac.specs.Writer.{walked, noneUnknown, Walk}

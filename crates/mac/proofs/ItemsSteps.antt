@@ -15,7 +15,8 @@ use Rattle.dataset.specs.Tree.{Elements, Items, last, item}
 use Rattle.dataset.specs.Reading.{Reading, fault, read, _>>=_, explicit, refusal, byItem, elementsAt, itemsAt}
 use Rattle.dataset.specs.declared.header.ItemHeader.{ItemHeader}
 use Rattle.dataset.specs.declared.header.ItemHeader.the-variants as place
-use Rattle.dataset.proofs.Bounds.{ItemFacts, item-facts, explicit-bounded}
+use Rattle.dataset.proofs.Bounds.{ItemFacts, item-facts}
+use Rattle.dataset.proofs.Bounded.{explicit-bounded}
 use Rattle.dataset.proofs.Unfolding.{items-are}
 use Rattle.dataset.proofs.Guarantees.{holds-read, ElementsIn, elements-read}
 use Rattle.mac.specs.Stream.{endMark, elementsStream, itemsStream}

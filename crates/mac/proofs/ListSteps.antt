@@ -15,7 +15,7 @@ use Rattle.dataset.specs.Tree.{Element, Elements, none, and, tagOf}
 use Rattle.dataset.specs.Order.{ElementsLie}
 use Rattle.dataset.specs.Reading.{Reading, fault, read, _>>=_, One, element, explicit, byOne, elementsAt, oneAt, levels}
 use Rattle.dataset.specs.Lookup.{find}
-use Rattle.dataset.proofs.Bounds.{explicit-bounded}
+use Rattle.dataset.proofs.Bounded.{explicit-bounded}
 use Rattle.dataset.proofs.Unfolding.{Within, elements-within}
 use Rattle.dataset.proofs.Guarantees.{holds-read, ElementsIn, elements-read}
 use Rattle.mac.specs.TagList.{tagsIn, ascending}
