@@ -1,10 +1,10 @@
 -- The checks at one header, in the written order: 01, "Reading the data set". Assumes nothing.
 --
 -- at         the offset of the header
--- stop       the end of the extent round it
--- delimited  whether a delimiter closes that extent, before `stop` or at it; otherwise its length is defined, and it is filled up to `stop`
+-- stop       the end of the extent (01's word) round it
+-- delimited  whether a delimiter closes that extent: its 8 bytes then end at `stop` or before it; otherwise the length is defined, and the extent is filled up to `stop`
 -- start      the offset past the header: of the value, the items, the elements or the fragment's bytes
--- left       16 less the level
+-- left       16 less the level (a term of 01: "The top is level 0; elements in the items of a level n sequence are at level n+1.")
 -- least      one more than the tag before in the same data set, or 0 where there is none
 --
 -- What stands there, with its fields (src/header.rt):
@@ -41,7 +41,7 @@ itemDelimiter = 0xFFFEE00D
 abbrev pub sequenceDelimiter : ℕ
 sequenceDelimiter = 0xFFFEE0DD
 
--- the extent up to `stop` has no place `at`, or does not lie inside the data: it has too few bytes
+-- Not of 01 (docs/DECISIONS.md, R11): an extent that has no place `at`, or does not lie inside the data, has too few bytes. The reading never asks this.
 abbrev pub outside : List ℕ → (stop at : ℕ) → Bool
 outside d stop at = ltb (length d) stop || ltb stop at
 
@@ -64,8 +64,7 @@ badLength vr len = if eqb len undefined then not (eqb vr SQ || eqb vr OB) else e
 unfoldable pub tooDeep : (vr left : ℕ) → Bool
 tooDeep vr left = eqb vr SQ && eqb left 0
 
--- An undefined length. SQ: its items end before the extent's end. Otherwise OB, the only other VR that `badLength` lets pass: the reader of
--- its fragments gets the extent.
+-- An undefined length. SQ: its items, up to a sequence delimiter inside the extent. Otherwise OB (`badLength` lets no other VR pass): its fragments, likewise.
 unfoldable pub undefinedBy : (tag vr stop start : ℕ) → ElementHeader
 undefinedBy tag vr stop start = if eqb vr SQ then element.Sequence tag start stop true else element.Fragments tag start
 

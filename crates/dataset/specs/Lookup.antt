@@ -15,6 +15,8 @@ use Rattle.dataset.specs.Tree.{Element, Elements, none, and, tagOf, span
 use Rattle.dataset.specs.Reading.{Reading, fault, read, dataSet}
 use Rattle.dataset.specs.declared.lookup.Found.{Found}
 
+-- Found (src/lookup.rt): answer present start length
+
 -- the element of a "top-level tag": items are not searched
 unfoldable pub find : ℕ → Elements → Option Element
 find tag none = Opt.none
@@ -28,7 +30,7 @@ absent a size = record { answer = a; present = false; start = size; length = 0 }
 abbrev pub present : (start end : ℕ) → Found
 present start end = record { answer = answer.accepted 0; present = true; start = start; length = end - start }
 
--- the element that was found, or none: in a data set of `size` bytes that is good
+-- the element that was found, or none: in a data set of `size` bytes that is well-formed
 unfoldable pub foundOf : (size : ℕ) → Option Element → Found
 foundOf size Opt.none = absent (answer.accepted 0) size
 foundOf size (some e) = present (spanOf e .start) (spanOf e .end)

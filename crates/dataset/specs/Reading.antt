@@ -91,8 +91,8 @@ byFragment refuse parts (place.Item start stop delimited) = do
 module _ (h : Headers) where
   -- The recursion counts down a number (fuel), one for each header on the way. Where it is used up the fault's number is 0, which
   -- `elementsAt` and the others below never give (`FuelSuffices`, `FaultsInside` and `FaultsOfOne` of Theorems.antt).
-  -- `left` is 16 less the level: that of the data set that is read, or that of the sequence or OB. Of fragments it is not used by the
-  -- reading; it is there for the fault.
+  -- `left` is 16 less the level: that of the data set that is read, or that of the sequence or OB. The reading of fragments does
+  -- not use it.
   unfoldable pub fragmentsBy : ℕ → List ℕ → (left stop at : ℕ) → Reading (List Span)
   fragmentsBy zero d left stop at = fault (refusal at 0)
   fragmentsBy (suc n) d left stop at = byFragment (refusal at) (fragmentsBy n d left stop) (h .item d false true stop at)
@@ -139,11 +139,11 @@ module _ (h : Headers) where
 abbrev pub sizeLimit : ℕ
 sizeLimit = 1048576
 
--- level, a term of 01: "The top is level 0"; "a sequence at level 16 is refused with 8", so that at the top 16 levels are left
+-- "a sequence at level 16 is refused with 8", so that at the top 16 levels are left
 abbrev pub levels : ℕ
 levels = 16
 
--- the reading of a whole data set, which "may be empty"; over the size it is 1, before anything is read
+-- the reading of a whole data set, which "may be empty". 1: "data set over the size", before anything is read
 unfoldable pub dataSet : List ℕ → Reading Elements
 dataSet d = if ltb sizeLimit (length d) then fault (answer.refused 1 0) else elementsAt explicit d false levels (length d) 0 0
 

@@ -65,7 +65,7 @@ pub record Equations (d : List ℕ) (delimited : Bool) (left stop at : ℕ) : Ty
 abbrev pub Unfolds : Type 0
 Unfolds = (d : List ℕ) (delimited : Bool) (left stop at : ℕ) → at ≤ stop → Equations d delimited left stop at
 
--- What the lookup finds lies in the data set. The tag stands only in a well-formed data set, and elsewhere the part is the empty one at the end.
+-- What the lookup finds lies in the data set. The tag stands only in a well-formed data set; where it does not stand, the part is the empty one at the end.
 pub record FoundInside (d : List ℕ) (f : Found) : Type 0 where
   pub inside : f .start + f .length ≤ length d
   pub stands : f .present ≡ true → WellFormed d

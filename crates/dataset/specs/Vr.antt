@@ -74,14 +74,26 @@ abbrev pub longForm : List ℕ
 longForm = vr O B ∷ vr O W ∷ vr O F ∷ vr S Q ∷ vr U T ∷ vr U N ∷ []
 
 -- the VRs that the rules name
+abbrev pub AT : ℕ
+AT = vr A T
+
+abbrev pub CS : ℕ
+CS = vr C S
+
 abbrev pub OB : ℕ
 OB = vr O B
 
 abbrev pub SQ : ℕ
 SQ = vr S Q
 
+abbrev pub UI : ℕ
+UI = vr U I
+
 abbrev pub UN : ℕ
 UN = vr U N
+
+abbrev pub US : ℕ
+US = vr U S
 
 -- v is in the list
 unfoldable pub oneOf : ℕ → List ℕ → Bool

@@ -2,11 +2,19 @@
 ghost use mathlib.Core.Path.{_≡_};
 ghost use Rattle.dataset.specs.Vr.{formOf, oneOf};
 
+pub const AT: u16 = 0x4154;
+
+pub const CS: u16 = 0x4353;
+
 pub const OB: u16 = 0x4F42;
 
 pub const SQ: u16 = 0x5351;
 
+pub const UI: u16 = 0x5549;
+
 pub const UN: u16 = 0x554E;
+
+pub const US: u16 = 0x5553;
 
 // The form of a header.
 pub(crate) enum Form {

@@ -5,7 +5,7 @@ use mathlib.Core.List.{List, _∷_, _++_}
 use lib.ListN.{replicate}
 use Rattle.digest.specs.Lists.{at, tabulate}
 
--- which byte of a number comes first: the highest in FIPS 180-4, the lowest in RFC 1321
+-- which byte of a number comes first: the highest in FIPS 180-4, the lowest in RFC 1321, which nothing uses yet (docs/DECISIONS.md, D7)
 pub data ByteOrder : Type 0 where
   bigEndian : ByteOrder
   littleEndian : ByteOrder

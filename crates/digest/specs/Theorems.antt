@@ -47,8 +47,8 @@ unfoldable pub afterCalls : Algorithm → Running → List (List ℕ) → Runnin
 afterCalls a s [] = s
 afterCalls a s (m ∷ parts) = afterCalls a (feeding a s m .running) parts
 
--- After calls of feed from any running digest that takes all their bytes, whatever its words are ("any eight words will do"): a call of feed that it takes too is accepted, and a call
--- of finish is accepted and gives the digest after feeding all bytes at once.
+-- After calls of feed from any running digest that takes all their bytes, whatever its words are ("any eight words will do"): one more call of feed is accepted where s accepts its
+-- bytes too, and a call of finish is accepted and gives the digest after feeding all bytes at once.
 pub record CallsFrom (a : Algorithm) (s : Running) (parts : List (List ℕ)) : Type 0 where
   pub state : afterCalls a s parts ≡ fed a s (flatten parts)
   pub feed-answer : (m : List ℕ) → accepts s (length (flatten parts ++ m)) ≡ true → feeding a (afterCalls a s parts) m .answer ≡ accepted 0

@@ -6,21 +6,20 @@ use mathlib.Core.List.{List, [], _∷_, _++_}
 use mathlib.Core.Option.{Option, some}
 use mathlib.Core.Option as Opt
 use native.Mathlib.Omega.{arith}
-use lib.Dec.{eqb, leb}
+use lib.Dec.{eqb}
 use lib.ListN.{length, take, drop, getD, length-drop}
 use lib.Seq.{take-at, length-take-le}
-use borrow.Author.Tests.{eq-eqb, ne-eqb, le-leb}
+use borrow.Author.Tests.{eq-eqb, ne-eqb, eqb-true, eqb-false, le-leb}
 use Rattle.answer.specs.declared.Answer.{Answer}
 use Rattle.answer.specs.If.{if_then_else_}
-use Rattle.answer.specs.Answer.{accepted, refused}
-use Rattle.dataset.specs.Reading.{sizeLimit}
 use Rattle.digest.specs.Message.{limit, digestOf, hashing}
 use Rattle.digest.specs.Sha256.{sha256}
 use Rattle.digest.specs.declared.message.Hashed.{Hashed}
-use Rattle.mac.specs.ListMode.{Call, stream, answer, isAccepted, outputAfter, sameBytes, compared, verdictOf, streamCall, checkCall, Streamed, CheckedAs}
-use Rattle.mac.specs.Writer.{callFor, StreamedFor}
+use Rattle.mac.specs.Modes.{Result, outputAfter, sameBytes, compared, verdictOf, Streamed, CheckedAs}
+use Rattle.mac.specs.Tail.{CheckOf, IntoFor}
 use Rattle.mac.specs.declared.verdict.Verdict.{Verdict}
 use Rattle.mac.specs.declared.verdict.Verdict.the-variants as verdict
+use Rattle.mac.specs.declared.verdict.Checked.{Checked}
 use Rattle.mac.proofs.Runs.{drop-one}
 
 -- ---- the loop of `same_bytes`
@@ -72,46 +71,49 @@ module _ (digest expected : List ℕ) (b : Bool) (e : b ≡ sameBytes digest exp
   unfolding if_then_else_
   says-differs t = rw (← e, t)
 
--- ---- the calls
+-- ---- a check, by the answer of its stream
 hashes : (m : List ℕ) → length m ≤ limit → hashing sha256 m .digest ≡ digestOf sha256 m
 unfolding hashing if_then_else_
 hashes m h = rw (le-leb (length m) limit h)
 
-pub stream-call : (l d out after : List ℕ) (r : Answer) → StreamedFor l d out false r after → Streamed (streamCall l d out) out r after
-stream-call l d out after r s = s .streamed Opt.none refl
+module _ (a : Answer) (expected work : List ℕ) where
+  pub check-refused : (a .number ≡ 0 → ⊥) → CheckOf a expected work (record { answer = a; verdict = verdict.Neither })
+  check-refused h = record { answers = refl; refused = λ k. refl; says = λ z. absurd (h z) }
 
-module _ (l d expected work after : List ℕ) (r : Answer) (s : StreamedFor l d work (not (eqb (length expected) 32)) r after) where
-  call : Streamed (checkCall l d expected work) work r after
-  call = s .streamed (some expected) refl
+  pub check-said : (g : Hashed) (v : Verdict) → a .number ≡ 0 → g ≡ hashing sha256 (take (a .length) work) → v ≡ compared (some expected) (g .digest)
+      → CheckOf a expected work (record { answer = a; verdict = v })
+  check-said g v h q w = record { answers = refl; refused = λ k. absurd (k h); says = λ z. w ∙ ap (λ (x : Hashed). compared (some expected) (x .digest)) q }
 
-  pub check-refused : (r .number ≡ 0 → ⊥) → CheckedAs (checkCall l d expected work) work (record { answer = r; verdict = verdict.Neither }) after
+pub check-count : (a : Answer) (work : List ℕ) → (a .number ≡ 0 → a .length ≤ length work) → a .number ≡ 0 → a .length ≡ length (take (a .length) work)
+check-count a work h z = sym (length-take-le (a .length) work (h z))
+
+-- ---- a call in either mode
+pub into-streamed : (call : Option (List ℕ) → Result) (out after : List ℕ) (a : Answer) → IntoFor call false out a after → Streamed (call Opt.none) out a after
+into-streamed call out after a s = s .streamed Opt.none refl
+
+module _ (call : Option (List ℕ) → Result) (expected work after : List ℕ) (a : Answer) (s : IntoFor call (not (eqb (length expected) 32)) work a after) where
+  pub into-room : length after ≡ length work → a .number ≡ 0 → a .length ≤ length after
+  into-room k h = omega (arith, s .room h)
+
+  -- what is digested is the stream
+  digested : a .number ≡ 0 → take (a .length) after ≡ call (some expected) .stream
+  unfolding outputAfter if_then_else_
+  digested h =
+      let t = s .streamed (some expected) refl in
+      let b = call (some expected) .stream in
+      let y : after ≡ b ++ drop (length b) work = t .output ∙ rw (← t .answers, eq-eqb (a .number) 0 h) in
+      rw y (take-at b (drop (length b) work) (a .length) (sym (s .long (some expected) h)))
+
+  pub into-checked : (r : Checked) → call (some expected) .expected ≡ some expected → CheckOf a expected after r → CheckedAs (call (some expected)) work r after
   unfolding verdictOf if_then_else_
-  check-refused h =
-      let a = call .answers in
-      record { answers = a; says = rw (← a, ne-eqb (r .number) 0 h); output = call .output }
-
-  pub check-room : r .number ≡ 0 → length after ≡ length work → r .length ≤ length after
-  check-room h k = omega (arith, s .room h)
-
-  pub check-count : r .number ≡ 0 → length after ≡ length work → r .length ≡ length (take (r .length) after)
-  check-count h k = sym (length-take-le (r .length) after (check-room h k))
-
-  module _ (h : r .number ≡ 0) where
-    -- what is digested is the stream
-    digested : take (r .length) after ≡ stream (checkCall l d expected work)
-    unfolding outputAfter stream if_then_else_
-    digested =
-        let a = call .answers in
-        let b = stream (checkCall l d expected work) in
-        let y : after ≡ b ++ drop (length b) work = call .output ∙ rw (← a, eq-eqb (r .number) 0 h) in
-        rw y (take-at b (drop (length b) work) (r .length) (sym (s .long h)))
-
-    pub check-done : (g : Hashed) (v : Verdict) → g ≡ hashing sha256 (take (r .length) after) → v ≡ compared (some expected) (g .digest)
-        → CheckedAs (checkCall l d expected work) work (record { answer = r; verdict = v }) after
-    unfolding verdictOf stream if_then_else_
-    check-done g v q w =
-        let a = call .answers in
-        let b = stream (checkCall l d expected work) in
-        let n : length b ≤ limit = omega (arith, s .long h, s .small h) in
-        let x : g .digest ≡ digestOf sha256 b = ap (λ (z : Hashed). z .digest) q ∙ rw digested (hashes b n) in
-        record { answers = a; says = w ∙ rw (x, ← a, eq-eqb (r .number) 0 h); output = call .output }
+  into-checked r e k =
+      let t = s .streamed (some expected) refl in
+      record { answers = k .answers ∙ t .answers; says = go (eqb (a .number) 0) refl; output = t .output }
+    where
+      go : (b : Bool) → eqb (a .number) 0 ≡ b → r .verdict ≡ verdictOf (call (some expected))
+      go true q =
+          let z = eqb-true (a .number) 0 q in
+          let b = call (some expected) .stream in
+          let n : length b ≤ limit = omega (arith, s .long (some expected) z, s .short z) in
+          k .says z ∙ rw (digested z, hashes b n, e, ← s .streamed (some expected) refl .answers, q)
+      go false q = k .refused (eqb-false (a .number) 0 q) ∙ rw (← s .streamed (some expected) refl .answers, q)

@@ -1,10 +1,10 @@
 -- What each place of `write_element` and `write_one` does, with the facts of the place as premises. Assumes nothing.
-use Prim.Native.Nat.{ℕ, _+_, _-_, _^_, _≤_, _<_}
+use Prim.Native.Nat.{ℕ, _+_, _-_, _*_, _^_, _≤_, _<_}
 use mir.Syntax.{w64}
 use mir.Val.{Fits}
 use mathlib.Core.Path.{_≡_, refl, sym, ap, _∙_}
 use mathlib.Core.Bool.{Bool, true, false, true≢false}
-use mathlib.Core.List.{List, [], _∷_, _++_}
+use mathlib.Core.List.{List, _++_}
 use native.Mathlib.Omega.{arith}
 use lib.Dec.{eqb}
 use lib.ListN.{length, length-append}
@@ -20,7 +20,7 @@ use Rattle.dataset.specs.declared.header.ElementHeader.{ElementHeader}
 use Rattle.dataset.specs.declared.header.ElementHeader.the-variants as header
 use Rattle.dataset.proofs.Bounds.{ElementFacts, element-facts}
 use Rattle.mac.specs.Stream.{streamOf, itemsStream, fragmentsStream}
-use Rattle.mac.specs.ListMode.{isUN, holdsUN, itemsHoldUN}
+use Rattle.mac.specs.Modes.{isUN, holdsUN, itemsHoldUN}
 use Rattle.mac.specs.Writer.{keeps, keepsHeader, every, walked, noneUnknown, oneStream, oneWalked, Leaves, Walk, byHeaderAt, Stands, holdingOf, withOffset}
 use Rattle.mac.specs.declared.writer.Keep.{Keep}
 use Rattle.mac.specs.declared.writer.Written.{Written}
@@ -76,8 +76,8 @@ module _ (d : List ℕ) (left stop at : ℕ) (h : ElementHeader) where
       pub value-inside : (n : ℕ) → stop ≤ n → end ≤ n
       value-inside n l = omega (arith, facts (header.Value tag vr start end) q .1 .inside)
 
-      pub value-fits : (to n : ℕ) → to ≤ at → stop ≤ n → n < 2 ^ 64 → Fits w64 (to + (end - at))
-      value-fits to n b l m = record { fits = omega (arith, value-order, value-inside n l) }
+      pub value-fits : (to : ℕ) → to ≤ at + length d → stop ≤ length d → length d * 1 < 2 ^ 63 → Fits w64 (to + (end - at))
+      value-fits to b l m = record { fits = omega (arith, value-order, value-inside (length d) l) }
 
       pub element-value : (to : ℕ) (u : Bool) (xs ys : List ℕ) → stop ≤ length d → u ≡ eqb vr UN → ys ≡ sets xs to (between d at end)
           → Walk (oneWalked every) (oneStream every) (byHeaderAt d left stop at h) d to (one.Element tag u false end (to + (end - at))) xs ys
@@ -93,7 +93,7 @@ module _ (d : List ℕ) (left stop at : ℕ) (h : ElementHeader) where
       pub sequence-level : 0 < left
       sequence-level = sequence-facts .4
 
-      pub sequence-room : (to : ℕ) → to ≤ at → to + 8 + 4 ≤ start
+      pub sequence-room : (to : ℕ) → to ≤ at + length d → to + 8 + 4 ≤ start + length d
       sequence-room to b = omega (arith, sequence-facts .1 .starts)
 
       pub sequence-order : start ≤ end
@@ -108,7 +108,7 @@ module _ (d : List ℕ) (left stop at : ℕ) (h : ElementHeader) where
       pub sequence-fits : length d < 2 ^ 64 → Fits w64 (at + 8)
       sequence-fits m = record { fits = omega (arith, sequence-header) }
 
-      pub sequence-to-fits : (to : ℕ) → to ≤ at → length d < 2 ^ 64 → Fits w64 (to + 8)
+      pub sequence-to-fits : (to : ℕ) → to ≤ at + length d → length d * 1 < 2 ^ 63 → Fits w64 (to + 8)
       sequence-to-fits to b m = record { fits = omega (arith, sequence-header) }
 
       pub element-sequence : (to : ℕ) (xs ys zs : List ℕ) (o : Written) (z : OneWritten) → ys ≡ sets xs to (between d at (at + 8))
@@ -126,7 +126,7 @@ module _ (d : List ℕ) (left stop at : ℕ) (h : ElementHeader) where
       parts-facts : ElementFacts d (s .delimited) left stop at (s .least) (header.Fragments tag start)
       parts-facts = facts (header.Fragments tag start) q
 
-      pub parts-room : (to : ℕ) → to ≤ at → to + 8 + 4 ≤ start
+      pub parts-room : (to : ℕ) → to ≤ at + length d → to + 8 + 4 ≤ start + length d
       parts-room to b = omega (arith, parts-facts .1 .starts)
 
       pub parts-order : start ≤ stop
@@ -138,7 +138,7 @@ module _ (d : List ℕ) (left stop at : ℕ) (h : ElementHeader) where
       pub parts-fits : length d < 2 ^ 64 → Fits w64 (at + 8)
       parts-fits m = record { fits = omega (arith, parts-header) }
 
-      pub parts-to-fits : (to : ℕ) → to ≤ at → length d < 2 ^ 64 → Fits w64 (to + 8)
+      pub parts-to-fits : (to : ℕ) → to ≤ at + length d → length d * 1 < 2 ^ 63 → Fits w64 (to + 8)
       parts-to-fits to b m = record { fits = omega (arith, parts-header) }
 
       pub element-fragments : (to : ℕ) (xs ys zs : List ℕ) (o : Written) (z : OneWritten) → ys ≡ sets xs to (between d at (at + 8))

@@ -1,18 +1,17 @@
 -- What one turn of the loop of `write_elements` does, with the facts of the place as premises. Assumes nothing.
 use Prim.Native.Nat.{ℕ, _+_, _-_, _≤_, _<_}
-use mathlib.Core.Path.{_≡_, refl, sym, ap, _∙_}
+use mathlib.Core.Path.{_≡_, refl, sym}
 use mathlib.Core.Bool.{Bool, true, false, not, _||_}
 use mathlib.Core.List.{List, [], _++_}
 use native.Mathlib.Omega.{arith}
 use lib.ListN.{length}
-use lib.Seq.{sets}
 use Rattle.answer.specs.declared.Answer.{Answer}
 use Rattle.answer.specs.If.{if_then_else_}
-use Rattle.dataset.specs.Tree.{Element, Elements, none, and, tagOf}
-use Rattle.dataset.specs.Reading.{Reading, element, explicit, byOne, elementsAt, oneAt}
+use Rattle.dataset.specs.Tree.{Element, none, and, tagOf}
+use Rattle.dataset.specs.Reading.{element, explicit, byOne, elementsAt, oneAt}
 use Rattle.mac.specs.TagList.{barred}
 use Rattle.mac.specs.Stream.{unlessBarred, streamOf, elementsStream}
-use Rattle.mac.specs.ListMode.{isUN, holdsUN, elementsHoldUN}
+use Rattle.mac.specs.Modes.{isUN, holdsUN, elementsHoldUN}
 use Rattle.mac.specs.Writer.{keeps, walked, oneStream, oneWalked, Walk}
 use Rattle.mac.specs.declared.writer.Keep.the-variants as keep
 use Rattle.mac.specs.declared.writer.Written.the-variants as written
@@ -23,10 +22,10 @@ use Rattle.mac.proofs.OneWalks as walk
 
 pub record ElementsLoop (d : List ℕ) (delimited : Bool) (left stop from : ℕ) (xs₀ : List ℕ) (to₀ : ℕ) (xs : List ℕ) (at least : ℕ) (found : Bool) (to : ℕ) : Type 0 where
   pub inside : at ≤ stop
-  pub below : to ≤ at
+  pub below : to ≤ at + length d
   pub going : Going elementsHoldUN elementsStream d (elementsAt explicit d delimited left stop from 0) to₀ xs₀ (elementsAt explicit d delimited left stop at least) found to xs
 
-pub elements-start : (d : List ℕ) (delimited : Bool) (left stop from : ℕ) (xs : List ℕ) (to : ℕ) → to ≤ from → from ≤ stop
+pub elements-start : (d : List ℕ) (delimited : Bool) (left stop from : ℕ) (xs : List ℕ) (to : ℕ) → to ≤ from + length d → from ≤ stop
     → ElementsLoop d delimited left stop from xs to xs from 0 false to
 elements-start d delimited left stop from xs to h k =
     record { inside = k; below = h; going = start elementsHoldUN elementsStream d (elementsAt explicit d delimited left stop from 0) to xs }

@@ -1,18 +1,18 @@
 -- What one turn of the loop of `write_fragments` does, with the facts of the place as premises. Assumes nothing.
-use Prim.Native.Nat.{ℕ, _+_, _-_, _^_, _≤_, _<_}
+use Prim.Native.Nat.{ℕ, _+_, _-_, _*_, _^_, _≤_, _<_}
 use mir.Syntax.{w64}
 use mir.Val.{Fits}
 use mathlib.Core.Path.{_≡_, refl, sym, ap, _∙_}
 use mathlib.Core.Bool.{Bool, true, false}
-use mathlib.Core.List.{List, [], _∷_, _++_, append-assoc}
+use mathlib.Core.List.{List, [], _∷_, _++_}
 use native.Mathlib.Omega.{arith}
-use lib.ListN.{length, length-append}
+use lib.ListN.{length}
 use lib.Seq.{sets}
 use Rattle.answer.specs.declared.Answer.{Answer}
 use Rattle.dataset.specs.Bytes.{between}
 use Rattle.dataset.specs.Header.{itemAt}
 use Rattle.dataset.specs.Tree.{Span, span}
-use Rattle.dataset.specs.Reading.{Reading, fault, read, _>>=_, explicit, refusal, byFragment, fragmentsAt}
+use Rattle.dataset.specs.Reading.{fault, explicit, refusal, byFragment, fragmentsAt}
 use Rattle.dataset.specs.declared.header.ItemHeader.{ItemHeader}
 use Rattle.dataset.specs.declared.header.ItemHeader.the-variants as place
 use Rattle.dataset.proofs.Bounds.{ItemFacts, item-facts}
@@ -32,10 +32,10 @@ fragment-run d out ys zs to start end y z = two-runs out itemMark (between d sta
 
 pub record FragmentsLoop (d : List ℕ) (left stop from : ℕ) (xs₀ : List ℕ) (to₀ : ℕ) (xs : List ℕ) (at to : ℕ) : Type 0 where
   pub inside : at ≤ stop
-  pub below : to + 4 ≤ at
+  pub below : to + 4 ≤ at + length d
   pub going : Going noneUnknown fragmentsStream d (fragmentsAt explicit d left stop from) to₀ xs₀ (fragmentsAt explicit d left stop at) false to xs
 
-pub fragments-start : (d : List ℕ) (left stop from : ℕ) (xs : List ℕ) (to : ℕ) → to + 4 ≤ from → from ≤ stop → FragmentsLoop d left stop from xs to xs from to
+pub fragments-start : (d : List ℕ) (left stop from : ℕ) (xs : List ℕ) (to : ℕ) → to + 4 ≤ from + length d → from ≤ stop → FragmentsLoop d left stop from xs to xs from to
 fragments-start d left stop from xs to h k =
     record { inside = k; below = h; going = start noneUnknown fragmentsStream d (fragmentsAt explicit d left stop from) to xs }
 
@@ -70,7 +70,7 @@ module _ (d : List ℕ) (left stop from : ℕ) (xs₀ : List ℕ) (to₀ : ℕ) 
     pub fragment-order : start ≤ end
     fragment-order = here (place.Item start end inner) q .0 .order
 
-    pub fragment-room : to + 4 ≤ start
+    pub fragment-room : to + 4 ≤ start + length d
     fragment-room = omega (arith, here (place.Item start end inner) q .0 .starts, i .below)
 
     pub fragment-inside : (n : ℕ) → stop ≤ n → end ≤ n
@@ -79,10 +79,10 @@ module _ (d : List ℕ) (left stop from : ℕ) (xs₀ : List ℕ) (to₀ : ℕ) 
     pub fragment-less : stop - end < stop - at
     fragment-less = let k = here (place.Item start end inner) q .0 in omega (arith, k .starts, k .order, k .inside)
 
-    fragment-below : to + 4 + (end - start) + 4 ≤ end
+    fragment-below : to + 4 + (end - start) + 4 ≤ end + length d
     fragment-below = let k = here (place.Item start end inner) q .0 in omega (arith, k .starts, k .order, i .below)
 
-    pub fragment-fits : stop ≤ length d → length d < 2 ^ 64 → Fits w64 (to + 4 + (end - start))
+    pub fragment-fits : stop ≤ length d → length d * 1 < 2 ^ 63 → Fits w64 (to + 4 + (end - start))
     fragment-fits l b = let k = here (place.Item start end inner) q .0 in record { fits = omega (arith, fragment-below, k .inside) }
 
     pub fragment-again : (ys : List ℕ) → stop ≤ length d → ys ≡ sets xs to (itemMark ++ between d start end)

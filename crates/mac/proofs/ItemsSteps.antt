@@ -4,14 +4,14 @@ use mir.Syntax.{w64}
 use mir.Val.{Fits}
 use mathlib.Core.Path.{_≡_, refl, sym, ap, _∙_, subst}
 use mathlib.Core.Bool.{Bool, true, false, _||_, true≢false}
-use mathlib.Core.List.{List, [], _++_, append-assoc}
+use mathlib.Core.List.{List, _++_, append-assoc}
 use native.Mathlib.Omega.{arith}
 use lib.ListN.{length, length-append}
 use lib.Seq.{sets}
 use Rattle.answer.specs.declared.Answer.{Answer}
 use Rattle.dataset.specs.Bytes.{between}
 use Rattle.dataset.specs.Header.{itemAt}
-use Rattle.dataset.specs.Tree.{Elements, Items, last, item}
+use Rattle.dataset.specs.Tree.{Elements, last, item}
 use Rattle.dataset.specs.Reading.{Reading, fault, read, _>>=_, explicit, refusal, byItem, elementsAt, itemsAt}
 use Rattle.dataset.specs.declared.header.ItemHeader.{ItemHeader}
 use Rattle.dataset.specs.declared.header.ItemHeader.the-variants as place
@@ -20,7 +20,7 @@ use Rattle.dataset.proofs.Bounded.{explicit-bounded}
 use Rattle.dataset.proofs.Unfolding.{items-are}
 use Rattle.dataset.proofs.Guarantees.{holds-read, ElementsIn, elements-read}
 use Rattle.mac.specs.Stream.{endMark, elementsStream, itemsStream}
-use Rattle.mac.specs.ListMode.{elementsHoldUN, itemsHoldUN}
+use Rattle.mac.specs.Modes.{elementsHoldUN, itemsHoldUN}
 use Rattle.mac.specs.Writer.{walked, Leaves, Walk}
 use Rattle.mac.specs.declared.writer.Written.{Written}
 use Rattle.mac.specs.declared.writer.Written.the-variants as written
@@ -31,10 +31,10 @@ use Rattle.mac.proofs.Walks.{Front, Going, start, go-on, stop-at, done}
 
 pub record ItemsLoop (d : List ℕ) (delimited : Bool) (left stop from : ℕ) (xs₀ : List ℕ) (to₀ : ℕ) (xs : List ℕ) (at : ℕ) (found : Bool) (to : ℕ) : Type 0 where
   pub inside : at ≤ stop
-  pub below : to + 4 ≤ at
+  pub below : to + 4 ≤ at + length d
   pub going : Going itemsHoldUN itemsStream d (itemsAt explicit d delimited left stop from) to₀ xs₀ (itemsAt explicit d delimited left stop at) found to xs
 
-pub items-start : (d : List ℕ) (delimited : Bool) (left stop from : ℕ) (xs : List ℕ) (to : ℕ) → to + 4 ≤ from → from ≤ stop
+pub items-start : (d : List ℕ) (delimited : Bool) (left stop from : ℕ) (xs : List ℕ) (to : ℕ) → to + 4 ≤ from + length d → from ≤ stop
     → ItemsLoop d delimited left stop from xs to xs from false to
 items-start d delimited left stop from xs to h k =
     record { inside = k; below = h; going = start itemsHoldUN itemsStream d (itemsAt explicit d delimited left stop from) to xs }
@@ -93,7 +93,7 @@ module _ (d : List ℕ) (delimited : Bool) (left stop from : ℕ) (xs₀ : List 
     pub item-inside : (n : ℕ) → stop ≤ n → end ≤ n
     item-inside n l = omega (arith, here (place.Item start end inner) q .0 .inside)
 
-    pub item-room : to + 4 ≤ start
+    pub item-room : to + 4 ≤ start + length d
     item-room = omega (arith, here (place.Item start end inner) q .0 .starts, i .below)
 
     pub item-header : (n : ℕ) → stop ≤ n → at + 4 ≤ n

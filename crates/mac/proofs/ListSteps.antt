@@ -1,30 +1,31 @@
 -- What one turn of the loop of `walk_list` does, with the facts of the place as premises. Assumes nothing.
 use Prim.Native.Nat.{ℕ, suc, _+_, _-_, _*_, _/_, _≤_, _<_}
-use mathlib.Core.Path.{_≡_, refl, sym, ap, _∙_, subst}
+use mathlib.Core.Path.{_≡_, refl, sym, ap, _∙_}
 use mathlib.Core.Bool.{Bool, true, false, true≢false}
 use mathlib.Core.List.{List, [], _∷_}
 use native.Mathlib.Omega.{arith}
 use lib.Dec.{eqb, ltb}
 use lib.ListN.{length, drop}
 use lib.Seq.{sets, length-sets}
-use borrow.Author.Tests.{lt-ltb, le-ltb, eq-eqb, ne-eqb, ltb-false, ltb-true, eqb-true, eqb-false}
+use borrow.Author.Tests.{eq-eqb, ne-eqb, ltb-false, ltb-true, eqb-true}
 use Rattle.answer.specs.declared.Answer.{Answer}
 use Rattle.answer.specs.If.{if_then_else_}
 use Rattle.answer.specs.Answer.{accepted, refused, _orElse_}
 use Rattle.dataset.specs.Tree.{Element, Elements, none, and, tagOf}
 use Rattle.dataset.specs.Order.{ElementsLie}
-use Rattle.dataset.specs.Reading.{Reading, fault, read, _>>=_, One, element, explicit, byOne, elementsAt, oneAt, levels}
+use Rattle.dataset.specs.Reading.{Reading, fault, read, _>>=_, element, explicit, byOne, elementsAt, oneAt}
 use Rattle.dataset.specs.Lookup.{find}
 use Rattle.dataset.proofs.Bounded.{explicit-bounded}
 use Rattle.dataset.proofs.Unfolding.{Within, elements-within}
 use Rattle.dataset.proofs.Guarantees.{holds-read, ElementsIn, elements-read}
 use Rattle.mac.specs.TagList.{tagsIn, ascending}
 use Rattle.mac.specs.Stream.{streamOf, listedStream}
-use Rattle.mac.specs.ListMode.{isUN, holdsUN, elementAnswer, tagsAnswer}
+use Rattle.mac.specs.Modes.{isUN, holdsUN, elementAnswer, tagsAnswer}
 use Rattle.mac.specs.Writer.{keeps, oneStream, oneWalked, Walk, listedAnswer, ListedLeaves, ListWalk, wantedOf, stoppedOf, mergedOf, endedOf}
-use Rattle.mac.specs.declared.list_mode.Listed.{Listed}
+use Rattle.mac.specs.Extents.{Lies, elementsIn}
+use Rattle.mac.specs.declared.extent.Extent.{Extent}
+use Rattle.mac.specs.declared.listed.Listed.{Listed}
 use Rattle.mac.specs.declared.writer.Keep.{Keep}
-use Rattle.mac.specs.declared.writer.Keep.the-variants as keep
 use Rattle.mac.specs.declared.writer.OneWritten.{OneWritten}
 use Rattle.mac.specs.declared.writer.OneWritten.the-variants as one
 use Rattle.mac.proofs.TagListSteps.{tags-more, tags-none}
@@ -44,17 +45,20 @@ pub record State (l : List ℕ) (at least : ℕ) (s : Listed) : Type 0 where
   pub fine : s .index < length l / 4 → s .answer .number ≡ 0
   pub form : s .answer .number ≡ 0 → s .answer ≡ accepted (s .answer .length)
 
-pub record ListLoop (l d xs₀ xs : List ℕ) (at least : ℕ) (s : Listed) : Type 0 where
-  pub inside : at ≤ length d
+pub record ListLoop (l d : List ℕ) (x : Extent) (xs₀ xs : List ℕ) (at least : ℕ) (s : Listed) : Type 0 where
+  pub inside : at ≤ x .stop
+  pub within : x .stop ≤ length d
   pub below : s .answer .length ≤ at
   pub state : State l at least s
-  pub on : On d (elementsAt explicit d false levels (length d) 0 0) (accepted 0) 0 (tagsIn l) xs₀ (elementsAt explicit d false levels (length d) at least) (s .answer) (s .index) (from l (s .index)) xs
+  pub on : On d (elementsIn d x) (accepted 0) 0 (tagsIn l) xs₀ (elementsAt explicit d (x .delimited) (x .left) (x .stop) at least) (s .answer) (s .index) (from l (s .index)) xs
   pub long : length xs ≡ length xs₀
 
-pub list-start : (l d xs : List ℕ) (a : Answer) → ascending 0 0 (tagsIn l) ≡ accepted 0 → a ≡ accepted 0 → ListLoop l d xs xs 0 0 (record { index = 0; answer = a })
-list-start l d xs a o e =
+pub list-start : (l d : List ℕ) (x : Extent) (xs : List ℕ) (a : Answer) → ascending 0 0 (tagsIn l) ≡ accepted 0 → Lies d x → a ≡ accepted 0
+    → ListLoop l d x xs xs (x .from) 0 (record { index = 0; answer = a })
+list-start l d x xs a o lies e =
     rw e record {
-      inside = omega arith;
+      inside = lies .order;
+      within = lies .inside;
       below = omega arith;
       state = record { below = omega arith; few = omega arith; order = o; fine = λ h. refl; form = λ h. refl };
       on = record { answers = refl; output = λ zs k. k };
@@ -84,9 +88,9 @@ still l s wanted tags t = go (ltb (s .index) (length l / 4)) refl
     go false e = let n = tags-none l (s .index) (ltb-false (s .index) (length l / 4) e) in absurd (true≢false (cc))
 
 -- e is what stands at `at`, q what is read after it, and s′ the state then
-module _ (l d xs ys : List ℕ) (at next least past : ℕ) (c : Keep) (s s′ : Listed) (e : Element) (q : Reading Elements) (i : State l at least s) (a : at ≤ next) (b : past ≤ next)
+module _ (l d xs ys : List ℕ) (left at next least past : ℕ) (c : Keep) (s s′ : Listed) (e : Element) (q : Reading Elements) (i : State l at least s) (a : at ≤ next) (b : past ≤ next)
     (m : past ≡ s .answer .length + length (oneStream (keeps c) (element e) d)) (y : ys ≡ sets xs (s .answer .length) (oneStream (keeps c) (element e) d))
-    (lie : (es : Elements) (n : ℕ) → q ≡ read es n → ElementsLie es d levels (tagOf e + 1) next n) where
+    (lie : (es : Elements) (n : ℕ) → q ≡ read es n → ElementsLie es d left (tagOf e + 1) next n) where
   record Turn : Type 0 where
     pub on : On d (q >>= inFront e) (s .answer) (s .index) (from l (s .index)) xs q (s′ .answer) (s′ .index) (from l (s′ .index)) ys
     pub state : State l next (tagOf e + 1) s′
@@ -142,7 +146,7 @@ module _ (l d xs ys : List ℕ) (at next least past : ℕ) (c : Keep) (s s′ : 
           let h = ltb-true wanted (tagOf e) e₂ in
           stops 13 (λ x. omega arith) z
           (rw (t, good) (on-absent d q e (s .answer .length) (s .index) (length l / 4) wanted tags xs ys λ es n x.
-          front-absent wanted e es h (find-absent wanted es d levels (tagOf e + 1) next n (lie es n x) (omega arith))))
+          front-absent wanted e es h (find-absent wanted es d left (tagOf e + 1) next n (lie es n x) (omega arith))))
       go false false true x₄ e₁ e₂ e₃ e₄ z =
           let h : tagOf e ≡ wanted = omega (arith, ltb-false (tagOf e) wanted e₁, ltb-false wanted (tagOf e) e₂) in
           stops 14 (λ x. omega arith) z (rw (t, good) (on-unknown d q e (s .answer .length) (s .index) (length l / 4) wanted tags xs ys h e₃))
@@ -164,35 +168,35 @@ module _ (l d xs ys : List ℕ) (at next least past : ℕ) (c : Keep) (s s′ : 
             };
           }
 
-turned : (l d xs ys : List ℕ) (at next least past : ℕ) (c : Keep) (s s′ : Listed) (e : Element) (tag : ℕ) (unknown holds : Bool) (q : Reading Elements) → State l at least s → at < next
+turned : (l d xs ys : List ℕ) (left at next least past : ℕ) (c : Keep) (s s′ : Listed) (e : Element) (tag : ℕ) (unknown holds : Bool) (q : Reading Elements) → State l at least s → at < next
     → past ≤ s .answer .length + (next - at) → past ≡ s .answer .length + length (oneStream (keeps c) (element e) d) → ys ≡ sets xs (s .answer .length) (oneStream (keeps c) (element e) d)
     → tagOf e ≡ tag → isUN e ≡ unknown → holdsUN e ≡ holds → c ≡ wantedOf (from l (s .index)) → s′ ≡ mergedOf (length l / 4) (from l (s .index)) s tag unknown holds past
-    → ((es : Elements) (n : ℕ) → q ≡ read es n → ElementsLie es d levels (tag + 1) next n)
+    → ((es : Elements) (n : ℕ) → q ≡ read es n → ElementsLie es d left (tag + 1) next n)
     → On d (q >>= inFront e) (s .answer) (s .index) (from l (s .index)) xs q (s′ .answer) (s′ .index) (from l (s′ .index)) ys × State l next (tag + 1) s′
-turned l d xs ys at next least past c s s′ e tag unknown holds q i a b m y f g h k z lie =
-    let t = turn l d xs ys at next least past c s s′ e q i (omega arith) (omega (arith, i .below)) m y (rw f lie) (from l (s .index)) refl k (rw (f, g, h) z) in
+turned l d xs ys left at next least past c s s′ e tag unknown holds q i a b m y f g h k z lie =
+    let t = turn l d xs ys left at next least past c s s′ e q i (omega arith) (omega (arith, i .below)) m y (rw f lie) (from l (s .index)) refl k (rw (f, g, h) z) in
     (t .on, rw f at (t .state))
 
 -- a fault has length 0
-fault-length : (d : List ℕ) (at least : ℕ) (f : Answer) → at ≤ length d → elementsAt explicit d false levels (length d) at least ≡ fault f → f .length ≡ 0
+fault-length : (d : List ℕ) (x : Extent) (at least : ℕ) (f : Answer) → at ≤ x .stop → elementsAt explicit d (x .delimited) (x .left) (x .stop) at least ≡ fault f → f .length ≡ 0
 unfolding elementsAt
-fault-length d at least f h e =
-    let w : Within {A = Elements} at (length d) (fault f) = rw e at (elements-within explicit explicit-bounded (suc (length d - at)) d false levels (length d) at least h (omega arith)) in
+fault-length d x at least f h e =
+    let w : Within {A = Elements} at (x .stop) (fault f) = rw e at (elements-within explicit explicit-bounded (suc (x .stop - at)) d (x .delimited) (x .left) (x .stop) at least h (omega arith)) in
     w .nothing
 
 -- ---- a turn of the loop: r is what the walk over one element answers, and ys what it leaves
-module _ (l d xs₀ xs : List ℕ) (at least : ℕ) (s : Listed) (i : ListLoop l d xs₀ xs at least s) (c : Keep) (k : c ≡ wantedOf (from l (s .index))) (r : OneWritten) (ys : List ℕ)
-    (w : Walk (oneWalked (keeps c)) (oneStream (keeps c)) (oneAt explicit d false levels (length d) at least) d (s .answer .length) r xs ys) where
+module _ (l d : List ℕ) (x : Extent) (xs₀ xs : List ℕ) (at least : ℕ) (s : Listed) (i : ListLoop l d x xs₀ xs at least s) (c : Keep) (k : c ≡ wantedOf (from l (s .index))) (r : OneWritten) (ys : List ℕ)
+    (w : Walk (oneWalked (keeps c)) (oneStream (keeps c)) (oneAt explicit d (x .delimited) (x .left) (x .stop) at least) d (s .answer .length) r xs ys) where
   ended-length : (tags : List ℕ) → endedOf tags s .length ≤ at
   unfolding endedOf
   ended-length [] = i .below
   ended-length (wanted ∷ tags) = omega arith
 
-  pub list-refused : (f : Answer) → r ≡ one.Refused f → ListWalk l d f xs₀ ys
+  pub list-refused : (f : Answer) → r ≡ one.Refused f → ListWalk l d x f xs₀ ys
   unfolding listedAnswer ListedLeaves
   list-refused f q =
-      let e = walk.one-fault (keeps c) d false levels (length d) at least (s .answer .length) r xs ys (i .inside) w f q in
-      record { answers = sym (i .on .answers ∙ rw e); output = i .on .output ys (rw e tt); short = omega (arith, fault-length d at least f (i .inside) e) }
+      let e = walk.one-fault (keeps c) d (x .delimited) (x .left) (x .stop) at least (s .answer .length) r xs ys (i .inside) w f q in
+      record { answers = sym (i .on .answers ∙ rw e); output = i .on .output ys (rw e tt); short = omega (arith, fault-length d x at least f (i .inside) e) }
 
   ended-is : (tags : List ℕ) → from l (s .index) ≡ tags → (next : ℕ) → ys ≡ xs
       → (endedOf tags s ≡ listedAnswer (s .answer) (s .index) tags d (read none next)) × ListedLeaves (s .answer) (s .index) tags d (read none next) xs ys
@@ -207,36 +211,37 @@ module _ (l d xs₀ xs : List ℕ) (at least : ℕ) (s : Listed) (i : ListLoop l
       thirteen : _≡_ {A = ℕ} 13 0 → ⊥
       thirteen h = omega arith
 
-  pub list-end : (next : ℕ) (a : Answer) → r ≡ one.End next → a ≡ endedOf (from l (s .index)) s → ListWalk l d a xs₀ ys
+  pub list-end : (next : ℕ) (a : Answer) → r ≡ one.End next → a ≡ endedOf (from l (s .index)) s → ListWalk l d x a xs₀ ys
   unfolding byOne
   list-end next a q z =
-      let e = walk.one-end (keeps c) d false levels (length d) at least (s .answer .length) r xs ys (i .inside) w next q in
-      let y = walk.end-output (keeps c) d false levels (length d) at least (s .answer .length) r xs ys (i .inside) w next q in
+      let e = walk.one-end (keeps c) d (x .delimited) (x .left) (x .stop) at least (s .answer .length) r xs ys (i .inside) w next q in
+      let y = walk.end-output (keeps c) d (x .delimited) (x .left) (x .stop) at least (s .answer .length) r xs ys (i .inside) w next q in
       let g = ended-is (from l (s .index)) refl next y in
-      record { answers = z ∙ g .0 ∙ sym (i .on .answers ∙ rw e); output = i .on .output ys (rw e (g .1)); short = rw z (omega (arith, ended-length (from l (s .index)), i .inside)) }
+      record { answers = z ∙ g .0 ∙ sym (i .on .answers ∙ rw e); output = i .on .output ys (rw e (g .1)); short = rw z (omega (arith, ended-length (from l (s .index)), i .inside, i .within)) }
 
   module _ (tag : ℕ) (unknown holds : Bool) (next past : ℕ) (q : r ≡ one.Element tag unknown holds next past) where
-    pub list-less : length d - next < length d - at
+    pub list-less : x .stop - next < x .stop - at
     list-less =
-        let x = walk.one-lies (keeps c) d false levels (length d) at least (s .answer .length) r xs ys (i .inside) w tag unknown holds next past q (omega arith) in
-        omega (arith, x .past, x .inside)
+        let lies = walk.one-lies (keeps c) d (x .delimited) (x .left) (x .stop) at least (s .answer .length) r xs ys (i .inside) w tag unknown holds next past q (i .within) in
+        omega (arith, lies .past, lies .inside)
 
-    pub list-again : (s′ : Listed) → s′ ≡ mergedOf (length l / 4) (from l (s .index)) s tag unknown holds past → ListLoop l d xs₀ ys next (tag + 1) s′
+    pub list-again : (s′ : Listed) → s′ ≡ mergedOf (length l / 4) (from l (s .index)) s tag unknown holds past → ListLoop l d x xs₀ ys next (tag + 1) s′
     list-again s′ z =
-        let e = walk.one-found (keeps c) d false levels (length d) at least (s .answer .length) r xs ys (i .inside) w tag unknown holds next past q in
-        let x = walk.one-lies (keeps c) d false levels (length d) at least (s .answer .length) r xs ys (i .inside) w tag unknown holds next past q (omega arith) in
-        let n = walk.one-next (keeps c) d false levels (length d) at least (s .answer .length) r xs ys (i .inside) w tag unknown holds next past q in
-        let y = walk.one-output (keeps c) d false levels (length d) at least (s .answer .length) r xs ys (i .inside) w tag unknown holds next past q in
-        let b = walk.one-below (keeps c) d false levels (length d) at least (s .answer .length) r xs ys (i .inside) w tag unknown holds next past q (omega arith) in
-        let t = turned l d xs ys at next least past c s s′ (e .what) tag unknown holds (elementsAt explicit d false levels (length d) next (tag + 1)) (i .state) (x .past)
+        let e = walk.one-found (keeps c) d (x .delimited) (x .left) (x .stop) at least (s .answer .length) r xs ys (i .inside) w tag unknown holds next past q in
+        let lies = walk.one-lies (keeps c) d (x .delimited) (x .left) (x .stop) at least (s .answer .length) r xs ys (i .inside) w tag unknown holds next past q (i .within) in
+        let n = walk.one-next (keeps c) d (x .delimited) (x .left) (x .stop) at least (s .answer .length) r xs ys (i .inside) w tag unknown holds next past q in
+        let y = walk.one-output (keeps c) d (x .delimited) (x .left) (x .stop) at least (s .answer .length) r xs ys (i .inside) w tag unknown holds next past q in
+        let b = walk.one-below (keeps c) d (x .delimited) (x .left) (x .stop) at least (s .answer .length) r xs ys (i .inside) w tag unknown holds next past q (i .within) in
+        let t = turned l d xs ys (x .left) at next least past c s s′ (e .what) tag unknown holds (elementsAt explicit d (x .delimited) (x .left) (x .stop) next (tag + 1)) (i .state) (lies .past)
         b (e .passes) y (e .tagged) (e .unknowns) (e .holding) k z
-        (λ es m h. holds-read (ElementsIn d false levels (length d) (tag + 1) next) (elementsAt explicit d false levels (length d) next (tag + 1)) es m
-        (elements-read d levels (length d) next (omega arith) false (tag + 1)) h .tree) in
+        (λ es m h. holds-read (ElementsIn d (x .delimited) (x .left) (x .stop) (tag + 1) next) (elementsAt explicit d (x .delimited) (x .left) (x .stop) next (tag + 1)) es m
+        (elements-read d (x .left) (x .stop) next (i .within) (x .delimited) (tag + 1)) h .tree) in
         record {
-          inside = x .inside;
+          inside = lies .inside;
+          within = i .within;
           below = t .1 .below;
           state = t .1;
-          on = on-trans d (elementsAt explicit d false levels (length d) 0 0) (accepted 0) 0 (tagsIn l) xs₀ (elementsAt explicit d false levels (length d) at least) (s .answer) (s .index) (from l (s .index)) xs
-              (elementsAt explicit d false levels (length d) next (tag + 1)) (s′ .answer) (s′ .index) (from l (s′ .index)) ys (i .on) (rw n (t .0));
+          on = on-trans d (elementsIn d x) (accepted 0) 0 (tagsIn l) xs₀ (elementsAt explicit d (x .delimited) (x .left) (x .stop) at least) (s .answer) (s .index) (from l (s .index)) xs
+              (elementsAt explicit d (x .delimited) (x .left) (x .stop) next (tag + 1)) (s′ .answer) (s′ .index) (from l (s′ .index)) ys (i .on) (rw n (t .0));
           long = ap length y ∙ length-sets xs (s .answer .length) (oneStream (keeps c) (element (e .what)) d) ∙ i .long;
         }

@@ -3,13 +3,12 @@ use Prim.Native.Nat.{ℕ, _+_, _≤_, _<_}
 use mathlib.Core.Path.{_≡_, refl, sym, ap, _∙_}
 use mathlib.Core.Bool.{Bool, true, false, true≢false}
 use mathlib.Core.List.{List, [], _∷_, _++_}
-use mathlib.Core.Option.{Option, some}
 use mathlib.Core.Option as Opt
 use native.Mathlib.Omega.{arith}
 use lib.Dec.{eqb, ltb}
 use lib.ListN.{length, length-append}
 use lib.Seq.{sets}
-use borrow.Author.Tests.{lt-ltb, le-ltb, eq-eqb, ne-eqb, ltb-false, ltb-true}
+use borrow.Author.Tests.{le-ltb, eq-eqb, ltb-false}
 use Rattle.answer.specs.declared.Answer.{Answer}
 use Rattle.answer.specs.If.{if_then_else_}
 use Rattle.answer.specs.Answer.{accepted, refused, _orElse_}
@@ -17,8 +16,8 @@ use Rattle.dataset.specs.Tree.{Element, Elements, none, and, tagOf}
 use Rattle.dataset.specs.Reading.{Reading, fault, read, _>>=_}
 use Rattle.dataset.specs.Lookup.{find}
 use Rattle.mac.specs.TagList.{ascending}
-use Rattle.mac.specs.Stream.{streamOf, foundStream, listedStream}
-use Rattle.mac.specs.ListMode.{isUN, holdsUN, elementAnswer, tagsAnswer}
+use Rattle.mac.specs.Stream.{streamOf, listedStream}
+use Rattle.mac.specs.Modes.{isUN, holdsUN, elementAnswer, tagsAnswer}
 use Rattle.mac.specs.Writer.{listedAnswer, ListedLeaves}
 use Rattle.mac.proofs.Runs.{sets-append}
 use Rattle.mac.proofs.Finding.{find-past, find-here}

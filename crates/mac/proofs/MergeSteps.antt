@@ -1,8 +1,8 @@
 -- The helpers of the walk over list and top level, place by place. Assumes nothing.
 use Prim.Native.Nat.{ℕ, _+_, _*_, _/_, _≤_, _<_}
-use mathlib.Core.Path.{_≡_, refl, sym, ap, _∙_}
+use mathlib.Core.Path.{_≡_, sym, _∙_}
 use mathlib.Core.Bool.{Bool, true, false}
-use mathlib.Core.List.{List, [], _∷_}
+use mathlib.Core.List.{List, _∷_}
 use native.Mathlib.Omega.{arith}
 use lib.ListN.{length, drop}
 use borrow.Author.Tests.{lt-ltb, le-ltb}
@@ -12,7 +12,7 @@ use Rattle.answer.specs.Answer.{accepted, refused}
 use Rattle.dataset.specs.Bytes.{tagAt}
 use Rattle.mac.specs.TagList.{tagsIn}
 use Rattle.mac.specs.Writer.{wantedOf, stoppedOf, mergedOf, endedOf}
-use Rattle.mac.specs.declared.list_mode.Listed.{Listed}
+use Rattle.mac.specs.declared.listed.Listed.{Listed}
 use Rattle.mac.specs.declared.writer.Keep.the-variants as keep
 use Rattle.mac.proofs.TagListSteps.{tags-more, tags-none}
 

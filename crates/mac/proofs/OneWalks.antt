@@ -1,6 +1,6 @@
 -- What the walk over one element answers, and what it says of the reading. Assumes nothing.
-use Prim.Native.Nat.{ℕ, _+_, _-_, _≤_, _<_}
-use mathlib.Core.Path.{_≡_, refl, sym, ap, _∙_, subst}
+use Prim.Native.Nat.{ℕ, _+_, _-_, _≤_}
+use mathlib.Core.Path.{_≡_, sym, ap, _∙_, subst}
 use mathlib.Core.Bool.{Bool, true, false, true≢false}
 use mathlib.Core.List.{List, []}
 use native.Mathlib.Omega.{arith}
@@ -14,7 +14,7 @@ use Rattle.dataset.proofs.Bounded.{explicit-bounded}
 use Rattle.dataset.proofs.Unfolding.{elements-are}
 use Rattle.dataset.proofs.Guarantees.{holds-read, OneIs, ElementIn, one-read}
 use Rattle.mac.specs.Stream.{streamOf}
-use Rattle.mac.specs.ListMode.{isUN, holdsUN}
+use Rattle.mac.specs.Modes.{isUN, holdsUN}
 use Rattle.mac.specs.Writer.{oneStream, oneWalked, Leaves, Walk}
 use Rattle.mac.specs.declared.writer.OneWritten.{OneWritten}
 use Rattle.mac.specs.declared.writer.OneWritten.the-variants as one

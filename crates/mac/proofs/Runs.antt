@@ -7,7 +7,7 @@ use native.Mathlib.Omega.{arith}
 use mathlib.Core.Path.{_≡_, refl, sym, ap, _∙_}
 use mathlib.Core.List.{List, [], _∷_, _++_}
 use lib.ListN.{length, take, drop, getD, set, length-drop, length-set}
-use lib.Seq.{drop-cons, sets, length-sets, set-out, take-suc, getD-drop, length-take-le}
+use lib.Seq.{drop-cons, sets, length-sets, set-out, take-suc, getD-drop}
 use Rattle.dataset.specs.Bytes.{between}
 use Rattle.mac.proofs.Slices.{length-between}
 

@@ -8,7 +8,7 @@ use Rattle.dataset.specs.Vr.{SQ, OB, UN}
 use Rattle.dataset.specs.Tree.{Element, Elements, Items, tagOf, vrOf}
 use Rattle.mac.specs.TagList.{barred}
 use Rattle.mac.specs.Content.{SignedElement, SignedElements, unlessBarred, signed, signedElements, signedItems}
-use Rattle.mac.specs.ListMode.{isUN, holdsUN, elementsHoldUN, itemsHoldUN, writesUN, elementsWriteUN, itemsWriteUN, metInSequence}
+use Rattle.mac.specs.Modes.{isUN, holdsUN, elementsHoldUN, itemsHoldUN, writesUN, elementsWriteUN, itemsWriteUN, metInSequence}
 use Rattle.mac.proofs.Either.{first-false, second-false, both-false}
 
 unless-barred-writes : (b : Bool) (e : SignedElement) (rest : SignedElements) → writesUN e ≡ false → elementsWriteUN rest ≡ false

@@ -6,7 +6,6 @@ use mathlib.Core.Bool.{Bool, true, false, _||_}
 use mathlib.Core.List.{List, [], _∷_}
 use mathlib.Core.Option.{Option, some}
 use mathlib.Core.Option as Opt
-use Rattle.answer.specs.If.{if_then_else_}
 use Rattle.dataset.specs.Bytes.{between}
 use Rattle.dataset.specs.Tree.{Span, Element, Elements, Items, tagOf}
 use Rattle.dataset.specs.Lookup.{find}
@@ -55,12 +54,13 @@ unfoldable mutual
   signedItems Items.last d = SignedItems.last
   signedItems (Items.item at elements rest) d = SignedItems.item (signedElements elements d) (signedItems rest d)
 
--- "The signed content of a list in a well-formed data set that holds every listed tag is, in list order, each listed element's .."; none where a tag is absent
+-- one element before the rest; none where either is missing
 abbrev pub joined : Option Element → Option SignedElements → List ℕ → Option SignedElements
 joined Opt.none rest d = Opt.none
 joined (some e) Opt.none d = Opt.none
 joined (some e) (some rest) d = some (SignedElements.and (signed e d) rest)
 
+-- "The signed content of a list in a well-formed data set that holds every listed tag is, in list order, each listed element's .."; none where a tag is absent
 unfoldable pub content : (tags : List ℕ) → Elements → List ℕ → Option SignedElements
 content [] es d = some SignedElements.none
 content (tag ∷ tags) es d = joined (find tag es) (content tags es d) d

@@ -1,85 +1,23 @@
 -- List mode (a term of 01): one definition of the answer, for the stream and for the check.
 -- Assumes nothing.
-use Prim.Native.Nat.{ℕ, _+_}
-use mathlib.Core.Path.{_≡_}
-use mathlib.Core.Bool.{Bool, true, false, not, _&&_, _||_}
-use mathlib.Core.List.{List, [], _∷_, _++_}
+use Prim.Native.Nat.{ℕ}
+use mathlib.Core.List.{List}
 use mathlib.Core.Option.{Option, some}
 use mathlib.Core.Option as Opt
-use lib.Dec.{eqb, ltb}
-use lib.ListN.{length, drop}
+use lib.Dec.{ltb}
+use lib.ListN.{length}
 use Rattle.answer.specs.declared.Answer.{Answer}
 use Rattle.answer.specs.If.{if_then_else_}
 use Rattle.answer.specs.Answer.{accepted, refused, _orElse_}
-use Rattle.dataset.specs.Vr.{UN}
-use Rattle.dataset.specs.Tree.{Element, Elements, Items, vrOf}
-use Rattle.dataset.specs.Reading.{Reading, sizeLimit, dataSet, answerOf}
-use Rattle.dataset.specs.Lookup.{find}
-use Rattle.digest.specs.Message.{digestOf}
-use Rattle.digest.specs.Sha256.{sha256}
+use Rattle.dataset.specs.Reading.{sizeLimit, dataSet, answerOf}
 use Rattle.mac.specs.TagList.{tagsIn, listAnswer}
-use Rattle.mac.specs.Content.{SignedElement, SignedElements, SignedItems, content}
+use Rattle.mac.specs.Content.{SignedElements, content}
 use Rattle.mac.specs.Stream.{listedStream}
-use Rattle.mac.specs.declared.verdict.Verdict.{Verdict}
-use Rattle.mac.specs.declared.verdict.Verdict.the-variants as verdict
-use Rattle.mac.specs.declared.verdict.Checked.{Checked}
-
--- ---- UN in a listed element, in the tree
-
-abbrev pub isUN : Element → Bool
-isUN e = eqb (vrOf e) UN
-
--- "a sequence with a UN element at any depth, even inside a barred element"
-unfoldable mutual
-  pub holdsUN : Element → Bool
-  holdsUN (Element.value at tag vr span) = false
-  holdsUN (Element.sequence at tag span items) = itemsHoldUN items
-  holdsUN (Element.fragments at tag span parts) = false
-
-  pub elementsHoldUN : Elements → Bool
-  elementsHoldUN Elements.none = false
-  elementsHoldUN (Elements.and e rest) = isUN e || (holdsUN e || elementsHoldUN rest)
-
-  pub itemsHoldUN : Items → Bool
-  itemsHoldUN Items.last = false
-  itemsHoldUN (Items.item at elements rest) = elementsHoldUN elements || itemsHoldUN rest
-
--- of one listed tag. 13: "listed tag absent at the top level"; 14: "listed element is UN"; 15: "listed sequence holds UN"
-unfoldable pub elementAnswer : (index : ℕ) → Option Element → Answer
-elementAnswer index Opt.none = refused 13 index
-elementAnswer index (some e) = if isUN e then refused 14 index else if holdsUN e then refused 15 index else accepted 0
-
--- "then tag by tag 13, 14, 15"
-unfoldable pub tagsAnswer : (index : ℕ) (tags : List ℕ) → Elements → Answer
-tagsAnswer index [] es = accepted 0
-tagsAnswer index (tag ∷ tags) es = elementAnswer index (find tag es) orElse tagsAnswer (index + 1) tags es
-
--- ---- UN in what is written: in the signed content, so without barred elements (`holdsUN` looks into these too)
-
-unfoldable mutual
-  pub writesUN : SignedElement → Bool
-  writesUN (SignedElement.value tag vr bytes) = eqb vr UN
-  writesUN (SignedElement.sequence tag items) = itemsWriteUN items
-  writesUN (SignedElement.fragments tag rows) = false
-
-  pub elementsWriteUN : SignedElements → Bool
-  elementsWriteUN SignedElements.none = false
-  elementsWriteUN (SignedElements.and e rest) = writesUN e || elementsWriteUN rest
-
-  pub itemsWriteUN : SignedItems → Bool
-  itemsWriteUN SignedItems.last = false
-  itemsWriteUN (SignedItems.item elements rest) = elementsWriteUN elements || itemsWriteUN rest
-
--- 17: "UN met inside a sequence being written"
-unfoldable pub metInSequence : SignedElements → Bool
-metInSequence SignedElements.none = false
-metInSequence (SignedElements.and (SignedElement.value tag vr bytes) rest) = metInSequence rest
-metInSequence (SignedElements.and (SignedElement.sequence tag items) rest) = itemsWriteUN items || metInSequence rest
-metInSequence (SignedElements.and (SignedElement.fragments tag rows) rest) = metInSequence rest
+use Rattle.mac.specs.Modes.{tree, met, tail, Result}
 
 -- ---- a call
 
--- A call in list mode, for the stream or for the check. "Its output room is the length of the output or, in a check, of the work buffer." (Output room is a term of 01.)
+-- A call in list mode, for the stream or for the check: the list, the data set, the output room.
 -- The expected digest is that of a check; a call for the stream has none.
 pub record Call : Type 0 where
   pub list : List ℕ
@@ -87,31 +25,14 @@ pub record Call : Type 0 where
   pub room : ℕ
   pub expected : Option (List ℕ)
 
--- the tree of a data set; empty where it is refused
-abbrev pub treeOf : Reading Elements → Elements
-treeOf (Reading.fault f) = Elements.none
-treeOf (Reading.read es next) = es
-
-abbrev pub tree : List ℕ → Elements
-tree d = treeOf (dataSet d)
-
--- "A call's signed content is that of its list in its data set." Where the data set is refused, or a tag absent, this value is not used.
+-- "A call's signed content is that of its list in its data set." It means something only where the data set is well-formed and holds every listed tag; elsewhere a refusal comes
+-- before 17.
 unfoldable pub contentOf : Call → Option SignedElements
 contentOf c = content (tagsIn (c .list)) (tree (c .set)) (c .set)
 
 -- the call's stream
 unfoldable pub stream : Call → List ℕ
 stream c = listedStream (tagsIn (c .list)) (tree (c .set)) (c .set)
-
--- 9: "expected digest not 32 bytes (check only)"
-abbrev pub badDigest : Option (List ℕ) → Bool
-badDigest Opt.none = false
-badDigest (some e) = not (eqb (length e) 32)
-
--- no content, nothing is written: such a call is refused before
-abbrev pub met : Option SignedElements → Bool
-met Opt.none = false
-met (some es) = metInSequence es
 
 -- "List mode: 1, 10, 11 over the whole list, 12 over the whole list, 2 to 8, then tag by tag 13, 14, 15; then 9, 16, 17."
 -- 1 stands in `dataSet` too; here it comes before the list.
@@ -120,34 +41,10 @@ answer c =
     (if ltb sizeLimit (length (c .set)) then refused 1 0 else accepted 0)
     orElse listAnswer (c .list)
     orElse answerOf (dataSet (c .set))
-    orElse tagsAnswer 0 (tagsIn (c .list)) (tree (c .set))
-    orElse (if badDigest (c .expected) then refused 9 0 else accepted 0)
-    orElse (if ltb (c .room) (length (stream c)) then refused 16 0 else accepted 0)
-    orElse (if met (contentOf c) then refused 17 0 else accepted 0)
-    orElse accepted (length (stream c))
+    orElse tail (tagsIn (c .list)) (tree (c .set)) (met (contentOf c)) (stream c) (c .room) (c .expected)
 
--- "A call in either mode is accepted when its number is 0." (Accepted is a term of 01.)
-abbrev pub isAccepted : Call → Bool
-isAccepted c = eqb (answer c .number) 0
-
--- what is left in the output or work buffer `out`: "the first length bytes of the output are the stream; later bytes are untouched. A refusal .. touches no output byte."
-unfoldable pub outputAfter : Call → (out : List ℕ) → List ℕ
-outputAfter c out = if isAccepted c then stream c ++ drop (length (stream c)) out else out
-
--- two lists of bytes are the same
-unfoldable pub sameBytes : List ℕ → List ℕ → Bool
-sameBytes [] [] = true
-sameBytes [] (y ∷ ys) = false
-sameBytes (x ∷ xs) [] = false
-sameBytes (x ∷ xs) (y ∷ ys) = eqb x y && sameBytes xs ys
-
--- "A check answers 0 with "same" or "differs" .. A refused check says neither."
-abbrev pub compared : Option (List ℕ) → (digest : List ℕ) → Verdict
-compared Opt.none digest = verdict.Neither
-compared (some e) digest = if sameBytes digest e then verdict.Same else verdict.Differs
-
-unfoldable pub verdictOf : Call → Verdict
-verdictOf c = if isAccepted c then compared (c .expected) (digestOf sha256 (stream c)) else verdict.Neither
+abbrev pub result : Call → Result
+result c = record { answer = answer c; stream = stream c; expected = c .expected }
 
 -- ---- what the functions promise
 
@@ -158,14 +55,3 @@ streamCall list set out = record { list = list; set = set; room = length out; ex
 -- list mode for the check, with the work buffer `work`
 abbrev pub checkCall : (list set expected work : List ℕ) → Call
 checkCall list set expected work = record { list = list; set = set; room = length work; expected = some expected }
-
--- what a call for the stream gives back, r, and leaves in the output
-pub record Streamed (c : Call) (out : List ℕ) (r : Answer) (after : List ℕ) : Type 0 where
-  pub answers : r ≡ answer c
-  pub output : after ≡ outputAfter c out
-
--- what a check gives back, r, and leaves in the work buffer
-pub record CheckedAs (c : Call) (work : List ℕ) (r : Checked) (after : List ℕ) : Type 0 where
-  pub answers : r .answer ≡ answer c
-  pub says : r .verdict ≡ verdictOf c
-  pub output : after ≡ outputAfter c work

@@ -45,11 +45,12 @@ unfoldable mutual
   itemsStream Items.last d = endMark
   itemsStream (Items.item at elements rest) d = between d at (at + 4) ++ (elementsStream elements d ++ itemsStream rest d)
 
--- "Listed elements follow in list order." (Of an absent tag there is none: 13 comes before.)
+-- of an absent tag there is none: 13 comes before
 abbrev pub foundStream : Option Element → List ℕ → List ℕ
 foundStream Opt.none d = []
 foundStream (some e) d = streamOf e d
 
+-- "Listed elements follow in list order."
 unfoldable pub listedStream : (tags : List ℕ) → Elements → List ℕ → List ℕ
 listedStream [] es d = []
 listedStream (tag ∷ tags) es d = foundStream (find tag es) d ++ listedStream tags es d

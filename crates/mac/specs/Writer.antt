@@ -3,9 +3,8 @@
 -- Assumes nothing.
 use Prim.Native.Nat.{ℕ, _+_, _≤_}
 use mathlib.Core.Path.{_≡_}
-use mathlib.Core.Bool.{Bool, true, false, not, _||_}
+use mathlib.Core.Bool.{Bool, true, false, not}
 use mathlib.Core.List.{List, [], _∷_}
-use mathlib.Core.Option.{Option}
 use lib.Dec.{eqb, ltb}
 use lib.ListN.{length}
 use lib.Seq.{sets}
@@ -13,14 +12,16 @@ use Rattle.answer.specs.declared.Answer.{Answer}
 use Rattle.answer.specs.If.{if_then_else_}
 use Rattle.answer.specs.Answer.{accepted, refused, _orElse_}
 use Rattle.dataset.specs.Header.{elementAt}
-use Rattle.dataset.specs.Tree.{Span, Element, Elements, Items, tagOf}
-use Rattle.dataset.specs.Reading.{Reading, fault, read, One, ended, element, explicit, refusal, byHeader, elementsAt, itemsAt, fragmentsAt, sizeLimit, levels, dataSet, answerOf}
+use Rattle.dataset.specs.Tree.{Span, Element, Elements, tagOf}
+use Rattle.dataset.specs.Reading.{Reading, fault, read, One, ended, element, explicit, refusal, byHeader, itemsAt, fragmentsAt}
 use Rattle.dataset.specs.declared.header.ElementHeader.{ElementHeader}
 use Rattle.dataset.specs.declared.header.ElementHeader.the-variants as header
-use Rattle.mac.specs.TagList.{barred, tagsIn, listAnswer}
+use Rattle.mac.specs.TagList.{barred, tagsIn}
 use Rattle.mac.specs.Stream.{streamOf, listedStream}
-use Rattle.mac.specs.ListMode.{isUN, holdsUN, tagsAnswer, Call, tree, badDigest, Streamed}
-use Rattle.mac.specs.declared.list_mode.Listed.{Listed}
+use Rattle.mac.specs.Modes.{isUN, holdsUN, tagsAnswer}
+use Rattle.mac.specs.Extents.{elementsIn}
+use Rattle.mac.specs.declared.extent.Extent.{Extent}
+use Rattle.mac.specs.declared.listed.Listed.{Listed}
 use Rattle.mac.specs.declared.writer.Keep.{Keep}
 use Rattle.mac.specs.declared.writer.Keep.the-variants as keep
 use Rattle.mac.specs.declared.writer.Written.{Written}
@@ -101,9 +102,9 @@ withOffset (one.Refused f) to = one.Refused f
 withOffset (one.End next) to = one.End next
 withOffset (one.Element tag unknown holds next past) to = one.Element tag unknown holds next to
 
--- ---- the walk over list and top level
+-- ---- the walk over list and data set
 
--- the answer by the reading of the top level: its fault; or else what was found before, or else the first of 13, 14, 15 for the tags from `index` on, or else the
+-- the answer by the reading of the data set: its fault; or else what was found before, or else the first of 13, 14, 15 for the tags from `index` on, or else the
 -- length of the stream
 unfoldable pub listedAnswer : (found : Answer) (index : ℕ) (tags d : List ℕ) → Reading Elements → Answer
 listedAnswer found index tags d (fault f) = f
@@ -115,9 +116,9 @@ ListedLeaves found index tags d (fault f) before after = Unit {0}
 ListedLeaves found index tags d (read es next) before after =
     listedAnswer found index tags d (read es next) .number ≡ 0 → after ≡ sets before (found .length) (listedStream tags es d)
 
-pub record ListWalk (list d : List ℕ) (r : Answer) (before after : List ℕ) : Type 0 where
-  pub answers : r ≡ listedAnswer (accepted 0) 0 (tagsIn list) d (elementsAt explicit d false levels (length d) 0 0)
-  pub output : ListedLeaves (accepted 0) 0 (tagsIn list) d (elementsAt explicit d false levels (length d) 0 0) before after
+pub record ListWalk (list d : List ℕ) (x : Extent) (r : Answer) (before after : List ℕ) : Type 0 where
+  pub answers : r ≡ listedAnswer (accepted 0) 0 (tagsIn list) d (elementsIn d x)
+  pub output : ListedLeaves (accepted 0) 0 (tagsIn list) d (elementsIn d x) before after
   pub short : r .length ≤ length d
 
 -- the element that is wanted next, by the tags that are left
@@ -143,24 +144,3 @@ mergedOf count (wanted ∷ tags) s tag unknown holds to =
 unfoldable pub endedOf : (tags : List ℕ) → Listed → Answer
 endedOf [] s = s .answer
 endedOf (wanted ∷ tags) s = refused 13 (s .index)
-
--- ---- a call
-
--- the answer up to 15, or the length of the stream
-unfoldable pub measuredAnswer : (list d : List ℕ) → Answer
-measuredAnswer list d =
-    (if ltb sizeLimit (length d) then refused 1 0 else accepted 0)
-    orElse listAnswer list
-    orElse answerOf (dataSet d)
-    orElse tagsAnswer 0 (tagsIn list) (tree d)
-    orElse accepted (length (listedStream (tagsIn list) (tree d) d))
-
--- a call whose expected digest, if it has one, is not 32 bytes (`bad`), or is
-abbrev pub callFor : (list d out : List ℕ) (expected : Option (List ℕ)) → Call
-callFor list d out expected = record { list = list; set = d; room = length out; expected = expected }
-
-pub record StreamedFor (list d out : List ℕ) (bad : Bool) (r : Answer) (after : List ℕ) : Type 0 where
-  pub streamed : (expected : Option (List ℕ)) → badDigest expected ≡ bad → Streamed (callFor list d out expected) out r after
-  pub long : r .number ≡ 0 → r .length ≡ length (listedStream (tagsIn list) (tree d) d)
-  pub room : r .number ≡ 0 → r .length ≤ length out
-  pub small : r .number ≡ 0 → r .length ≤ sizeLimit

@@ -1,5 +1,13 @@
 // What a check says.
+use crate::bytes;
 use answer::Answer;
+use digest::message;
+ghost use mathlib.Core.Path.{_≡_};
+ghost use mathlib.Core.Option.{some};
+ghost use Prim.Native.Nat.{_≤_};
+ghost use lib.ListN.{length};
+ghost use Rattle.mac.specs.Modes.{compared};
+ghost use Rattle.mac.specs.Tail.{CheckOf};
 
 // Whether the digest of the stream is the expected one; a refused check says neither.
 pub enum Verdict {
@@ -12,4 +20,32 @@ pub enum Verdict {
 pub struct Checked {
     pub answer: Answer,
     pub verdict: Verdict,
+}
+
+// What a check says of the digest of its stream.
+fn verdict_of(digest: &[u8], expected: &[u8]) -> Verdict
+    ensures { λ r. ⌜ r ≡ compared (some (now (expected .entry))) (now (digest .entry)) ⌝ }
+{
+    if bytes::same_bytes(digest, expected) {
+        return Verdict::Same;
+    }
+    Verdict::Differs
+}
+
+// A check, by the answer of its stream, which stands in the work buffer where it is accepted.
+pub(crate) fn check_of(answer: Answer, expected: &[u8], work: &[u8]) -> Checked
+    requires { ⌜ (answer .number ≡ 0 → answer .length ≤ length (now work)) ⌝ }
+    ensures { λ r. ⌜ CheckOf answer (now (expected .entry)) (now (work .entry)) r ⌝ }
+{
+    if answer.number != 0 {
+        return Checked {
+            answer,
+            verdict: Verdict::Neither,
+        };
+    }
+    let length = answer.length;
+    let hashed = message::sha256(&work[..length]);
+    let digest = hashed.digest;
+    let verdict = verdict_of(&digest, expected);
+    Checked { answer, verdict }
 }

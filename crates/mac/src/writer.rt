@@ -8,7 +8,7 @@ use dataset::header::ItemHeader;
 use dataset::vr;
 ghost use mathlib.Core.Path.{_≡_};
 ghost use mathlib.Core.Bool.{_||_};
-ghost use mathlib.Core.List.{List, [], _∷_, _++_};
+ghost use mathlib.Core.List.{[], _∷_, _++_};
 ghost use Prim.Native.Nat.{_+_, _<_, _≤_};
 ghost use lib.Dec.{eqb};
 ghost use lib.ListN.{length};
@@ -17,7 +17,7 @@ ghost use Rattle.dataset.specs.Bytes.{between};
 ghost use Rattle.dataset.specs.Vr.{UN};
 ghost use Rattle.dataset.specs.Reading.{explicit, elementsAt, itemsAt, fragmentsAt, oneAt};
 ghost use Rattle.mac.specs.Stream.{itemMark, elementsStream, itemsStream, fragmentsStream};
-ghost use Rattle.mac.specs.ListMode.{elementsHoldUN, itemsHoldUN};
+ghost use Rattle.mac.specs.Modes.{elementsHoldUN, itemsHoldUN};
 ghost use Rattle.mac.specs.Writer.{keeps, keepsHeader, every, walked, noneUnknown, oneStream, oneWalked, Walk, byHeaderAt, Stands, holdingOf, withOffset};
 
 // Which elements are kept: inside an item those that are not barred, at the top the one that is wanted, if any is.
@@ -95,7 +95,7 @@ fn is_unknown(vr: u16) -> bool
     vr == vr::UN
 }
 
-fn either(a: bool, b: bool) -> bool
+pub(crate) fn either(a: bool, b: bool) -> bool
     ensures { λ r. ⌜ r ≡ (a || b) ⌝ }
 {
     if a {
@@ -180,7 +180,7 @@ fn mark(out: &mut [u8], to: usize, third: u8)
 
 // Writes an item tag and the bytes of a fragment.
 fn write_fragment(d: &[u8], start: usize, end: usize, out: &mut [u8], to: usize)
-    requires { ⌜ (to + 4 ≤ start) × (start ≤ end) × (end ≤ length (now d)) ⌝ }
+    requires { ⌜ (to + 4 ≤ start + length (now d)) × (start ≤ end) × (end ≤ length (now d)) ⌝ }
     ensures { λ _. ⌜ now (out .exit) ≡ sets (now (out .entry)) to (itemMark ++ between (now (d .entry)) start end) ⌝ }
 {
     mark(out, to, 0x00);
@@ -196,7 +196,7 @@ fn write_fragments(
     out: &mut [u8],
     onto: usize,
 ) -> Written
-    requires { ⌜ (onto + 4 ≤ from) × (from ≤ stop) × (stop ≤ length (now d)) ⌝ }
+    requires { ⌜ (onto + 4 ≤ from + length (now d)) × (from ≤ stop) × (stop ≤ length (now d)) ⌝ }
     ensures { λ r. ⌜ Walk (walked noneUnknown fragmentsStream) fragmentsStream (fragmentsAt explicit (now (d .entry)) left stop from) (now (d .entry)) onto r (now (out .entry)) (now (out .exit)) ⌝ }
 {
     let mut at = from;
@@ -235,7 +235,7 @@ fn write_element(
     out: &mut [u8],
     to: usize,
 ) -> OneWritten
-    requires { ⌜ Stands (now d) left stop at h × (to ≤ at) × (at ≤ stop) × (stop ≤ length (now d)) ⌝ }
+    requires { ⌜ Stands (now d) left stop at h × (to ≤ at + length (now d)) × (at ≤ stop) × (stop ≤ length (now d)) ⌝ }
     ensures { λ r. ⌜ Walk (oneWalked every) (oneStream every) (byHeaderAt (now (d .entry)) left stop at h) (now (d .entry)) to r (now (out .entry)) (now (out .exit)) ⌝ }
 {
     match h {
@@ -287,7 +287,7 @@ pub(crate) fn write_one(
     out: &mut [u8],
     to: usize,
 ) -> OneWritten
-    requires { ⌜ (to ≤ at) × (at ≤ stop) × (stop ≤ length (now d)) ⌝ }
+    requires { ⌜ (to ≤ at + length (now d)) × (at ≤ stop) × (stop ≤ length (now d)) ⌝ }
     ensures { λ r. ⌜ Walk (oneWalked (keeps keep)) (oneStream (keeps keep)) (oneAt explicit (now (d .entry)) delimited left stop at least) (now (d .entry)) to r (now (out .entry)) (now (out .exit)) ⌝ }
 {
     let h = header::header(d, delimited, left, stop, at, least);
@@ -309,7 +309,7 @@ fn write_elements(
     out: &mut [u8],
     onto: usize,
 ) -> Written
-    requires { ⌜ (onto ≤ from) × (from ≤ stop) × (stop ≤ length (now d)) ⌝ }
+    requires { ⌜ (onto ≤ from + length (now d)) × (from ≤ stop) × (stop ≤ length (now d)) ⌝ }
     ensures { λ r. ⌜ Walk (walked elementsHoldUN elementsStream) elementsStream (elementsAt explicit (now (d .entry)) delimited left stop from 0) (now (d .entry)) onto r (now (out .entry)) (now (out .exit)) ⌝ }
 {
     let mut at = from;
@@ -350,7 +350,7 @@ fn write_items(
     out: &mut [u8],
     onto: usize,
 ) -> Written
-    requires { ⌜ (0 < left) × (onto + 4 ≤ from) × (from ≤ stop) × (stop ≤ length (now d)) ⌝ }
+    requires { ⌜ (0 < left) × (onto + 4 ≤ from + length (now d)) × (from ≤ stop) × (stop ≤ length (now d)) ⌝ }
     ensures { λ r. ⌜ Walk (walked itemsHoldUN itemsStream) itemsStream (itemsAt explicit (now (d .entry)) delimited left stop from) (now (d .entry)) onto r (now (out .entry)) (now (out .exit)) ⌝ }
 {
     let mut at = from;

@@ -2,6 +2,7 @@
 use crate::list_kinds;
 use crate::print;
 use crate::reading_kinds;
+use crate::signature_kinds;
 use crate::words;
 
 // The case of a kind with one argument.
@@ -17,6 +18,40 @@ fn run_one(kind: &[u8], first: &[u8], data: &mut [u8], out: &mut [u8]) {
     print::not_understood();
 }
 
+// The case of a kind with four arguments or more; `rest` is the line from the third argument on.
+fn run_four(
+    fields: usize,
+    kind: &[u8],
+    first: &[u8],
+    second: &[u8],
+    rest: &[u8],
+    data: &mut [u8],
+    out: &mut [u8],
+) {
+    let fourth_at = words::next(rest, 0);
+    let fifth_at = words::next(rest, fourth_at);
+    let third = words::field(rest, 0);
+    let fourth = words::field(rest, fourth_at);
+    let fifth = words::field(rest, fifth_at);
+    if fields == 6 {
+        if check::same(kind, b"list-check") {
+            list_kinds::check_case(first, second, third, fourth, data, out);
+            return;
+        }
+        if check::same(kind, b"signature") {
+            signature_kinds::signature_case(first, second, third, fourth, data, out);
+            return;
+        }
+    }
+    if fields == 7 {
+        if check::same(kind, b"signature-check") {
+            signature_kinds::signature_check_case(first, second, third, fourth, fifth, data, out);
+            return;
+        }
+    }
+    print::not_understood();
+}
+
 // The case of a kind with two arguments or more; `rest` is the line from the second argument on.
 fn run_more(
     fields: usize,
@@ -27,9 +62,7 @@ fn run_more(
     out: &mut [u8],
 ) {
     let third_at = words::next(rest, 0);
-    let fourth_at = words::next(rest, third_at);
     let second = words::field(rest, 0);
-    let third = words::field(rest, third_at);
     if fields == 4 {
         if check::same(kind, b"lookup") {
             reading_kinds::lookup_case(first, second, data);
@@ -38,24 +71,11 @@ fn run_more(
     }
     if fields == 5 {
         if check::same(kind, b"list") {
-            list_kinds::list_case(first, second, third, data, out);
+            list_kinds::list_case(first, second, words::field(rest, third_at), data, out);
             return;
         }
     }
-    if fields == 6 {
-        if check::same(kind, b"list-check") {
-            list_kinds::check_case(
-                first,
-                second,
-                third,
-                words::field(rest, fourth_at),
-                data,
-                out,
-            );
-            return;
-        }
-    }
-    print::not_understood();
+    run_four(fields, kind, first, second, &rest[third_at..], data, out);
 }
 
 // Runs the case of one line.

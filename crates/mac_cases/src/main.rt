@@ -1,16 +1,20 @@
 // Runs the cases of standard input and prints a line for each. A case is a line `NAME KIND ARGS`, its fields parted by single
 // spaces; an empty line and one that starts with # print nothing; a line that is not understood prints `NAME ?`. Of a longer input
 // than 2,228,223 bytes nothing is run: it prints the one line `input over 2228223 bytes`.
-//   NAME read DATA                               prints NAME NUMBER POSITION
-//   NAME lookup TAG DATA                         prints NAME NUMBER POSITION yes|no LENGTH HEX, without HEX where LENGTH is 0
-//   NAME list ROOM LIST DATA                     prints NAME NUMBER POSITION LENGTH HEX, without HEX where LENGTH is 0
-//   NAME list-check ROOM EXPECTED LIST DATA      prints NAME NUMBER POSITION LENGTH neither|same|differs
-//   NAME frame INPUT                             prints NAME, a newline, and what the stream program prints for the input
+//   NAME read DATA                                       prints NAME NUMBER POSITION
+//   NAME lookup TAG DATA                                 prints NAME NUMBER POSITION yes|no LENGTH HEX, without HEX where LENGTH is 0
+//   NAME list ROOM LIST DATA                             prints NAME NUMBER POSITION LENGTH HEX, without HEX where LENGTH is 0
+//   NAME list-check ROOM EXPECTED LIST DATA              prints NAME NUMBER POSITION LENGTH neither|same|differs
+//   NAME signature ROOM UID WHICH DATA                   prints as list does; WHICH is a number in decimal, or none
+//   NAME signature-check ROOM EXPECTED UID WHICH DATA    prints as list-check does
+//   NAME frame INPUT                                     prints NAME, a newline, and what the stream program prints for the input
 mod bytes;
+mod calls;
 mod kinds;
 mod list_kinds;
 mod print;
 mod reading_kinds;
+mod signature_kinds;
 mod words;
 
 // Runs each line of the text, with rooms for a case's data set and for its output.

@@ -1,5 +1,5 @@
 // The stream program: reads a frame from standard input and prints the answer of list mode, and the stream in hex.
-use mac::frame;
+use mac_frame::frame;
 
 // The first n bytes of s, or all of s where it has fewer.
 fn first(s: &[u8], n: usize) -> &[u8] {

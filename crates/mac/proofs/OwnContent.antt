@@ -1,0 +1,55 @@
+-- The signature item's own elements: no UN stands in them, and their stream is never longer than the item. Assumes nothing.
+use Prim.Native.Nat.{ℕ, _-_, _≤_}
+use mathlib.Core.Path.{_≡_, refl}
+use mathlib.Core.Bool.{Bool, true, false, _||_}
+use mathlib.Core.List.{List}
+use native.Mathlib.Omega.{arith}
+use lib.ListN.{length, length-append}
+use Rattle.answer.specs.If.{if_then_else_}
+use Rattle.dataset.specs.Tree.{Element, Elements, tagOf}
+use Rattle.dataset.specs.Order.{ElementsLie}
+use Rattle.mac.specs.TagList.{barred}
+use Rattle.mac.specs.Content.{signedElements}
+use Rattle.mac.specs.Stream.{unlessBarred, streamOf, elementsStream}
+use Rattle.mac.specs.Modes.{isUN, holdsUN, metInSequence}
+use Rattle.mac.specs.SignatureMode.{named, leftOut, own}
+use Rattle.mac.proofs.Either.{first-false, second-false}
+use Rattle.mac.proofs.UnknownVr.{none-met}
+use Rattle.mac.proofs.StreamLength.{elements-length}
+
+-- an element that is not left out
+module _ (e : Element) (h : leftOut e ≡ false) where
+  unnamed : (barred (tagOf e) || (isUN e || holdsUN e)) ≡ false
+  unfolding leftOut
+  unnamed = second-false (named (tagOf e)) (barred (tagOf e) || (isUN e || holdsUN e)) h
+
+  pub own-unbarred : barred (tagOf e) ≡ false
+  own-unbarred = first-false (barred (tagOf e)) (isUN e || holdsUN e) unnamed
+
+  own-holds-none : holdsUN e ≡ false
+  own-holds-none = second-false (isUN e) (holdsUN e) (second-false (barred (tagOf e)) (isUN e || holdsUN e) unnamed)
+
+pub own-never-met : (es : Elements) (d : List ℕ) → metInSequence (signedElements (own es) d) ≡ false
+unfolding own signedElements metInSequence if_then_else_
+own-never-met Elements.none d = refl
+own-never-met (Elements.and e es) d = go (leftOut e) refl (own-never-met es d)
+  where
+    go : (b : Bool) → leftOut e ≡ b → metInSequence (signedElements (own es) d) ≡ false
+        → metInSequence (signedElements (if b then own es else Elements.and e (own es)) d) ≡ false
+    go true q k = k
+    go false q k = rw (own-unbarred e q) (none-met e d (signedElements (own es) d) (own-holds-none e q) k)
+
+pub own-fewer : (es : Elements) (d : List ℕ) → length (elementsStream (own es) d) ≤ length (elementsStream es d)
+unfolding own elementsStream if_then_else_
+own-fewer Elements.none d = omega arith
+own-fewer (Elements.and e es) d = go (leftOut e) (barred (tagOf e)) refl (own-fewer es d)
+  where
+    go : (b t : Bool) → barred (tagOf e) ≡ t → length (elementsStream (own es) d) ≤ length (elementsStream es d)
+        → length (elementsStream (if b then own es else Elements.and e (own es)) d) ≤ length (unlessBarred t (streamOf e d) (elementsStream es d))
+    go true true q h = h
+    go true false q h = simp length-append (omega arith)
+    go false true q h = rw q h
+    go false false q h = rw q (simp length-append (omega arith))
+
+pub own-no-longer : (es : Elements) (d : List ℕ) (left floor at next : ℕ) → ElementsLie es d left floor at next → length (elementsStream (own es) d) ≤ next - at
+own-no-longer es d left floor at next r = let t = elements-length es d left floor at next r in omega (arith, t .1, own-fewer es d)

@@ -1,0 +1,172 @@
+-- The tests of the selection, place by place, with the facts of the place as premises. Assumes nothing.
+use Prim.Native.Nat.{ℕ, _+_, _-_, _≤_, _<_}
+use mathlib.Core.Path.{_≡_, refl, sym, ap, _∙_}
+use mathlib.Core.Bool.{Bool, true, false, not, _&&_}
+use mathlib.Core.List.{List, [], _∷_}
+use mathlib.Core.Option.{Option, some}
+use mathlib.Core.Option as Opt
+use native.Mathlib.Omega.{arith}
+use lib.Dec.{eqb}
+use lib.ListN.{length, take, drop, getD, length-drop, length-take}
+use lib.Seq.{drop-cons, length-take-le, take-all, take-length}
+use borrow.Author.Tests.{eq-eqb, ne-eqb}
+use Rattle.answer.specs.If.{if_then_else_}
+use Rattle.dataset.specs.Bytes.{between}
+use Rattle.dataset.specs.Vr.{US}
+use Rattle.dataset.specs.Tree.{Element}
+use Rattle.dataset.specs.Lookup.{find}
+use Rattle.mac.specs.Modes.{sameBytes}
+use Rattle.mac.specs.SignatureMode.{macIdNumber, valueOf, twoBytes, macIdOf, lessNul, implicitVrLittleEndian, explicitVrBigEndian, badTransferSyntax, SHA256, onlySpaces, isTerm, badAlgorithm}
+use Rattle.mac.specs.Selecting.{Placed, PlaceLies, WantedLies, Tests, HasId, IsWanted, LessNul}
+use Rattle.mac.specs.declared.seek.Place.{Place}
+use Rattle.mac.specs.declared.seek.Place.the-variants as place
+use Rattle.mac.specs.declared.selection.Wanted.{Wanted}
+use Rattle.mac.specs.declared.selection.Wanted.the-variants as wanted
+use Rattle.mac.proofs.Slices.{length-between}
+use Rattle.mac.proofs.Runs.{drop-one}
+use Rattle.mac.proofs.CheckSteps.{same-lengths}
+use Rattle.mac.proofs.SelectPlaces.{NoValue, no-value, value-order, value-inside, value-at}
+
+-- ---- a test of the value in a place
+module _ (want : ℕ) (test : Option (List ℕ) → Bool) (d : List ℕ) (p : Place) (r : Bool) where
+  pub test-none : NoValue p → r ≡ test Opt.none → Tests want test d p r
+  test-none h w = record { says = λ o q. rw (no-value d p want o h q) w }
+
+  module _ (vr start end : ℕ) (is : p ≡ place.Value vr start end) where
+    pub test-other : (vr ≡ want → ⊥) → r ≡ test Opt.none → Tests want test d p r
+    unfolding if_then_else_
+    test-other h w = record { says = λ o q. rw (value-at d p vr start end is want o q, ne-eqb vr want h) w }
+
+    pub test-value : vr ≡ want → r ≡ test (some (take (end - start) (drop start d))) → Tests want test d p r
+    unfolding if_then_else_ between
+    test-value h w = record { says = λ o q. rw (value-at d p vr start end is want o q, eq-eqb vr want h) w }
+
+-- ---- the MAC ID Number
+pub is-us : (vr n : ℕ) → vr ≡ US → eqb n 2 ≡ (eqb vr US && eqb n 2)
+is-us vr n h = rw (eq-eqb vr US h)
+
+-- the bytes of the MAC ID Number in a place
+module _ (d : List ℕ) (p : Place) (vr start end : ℕ) (is : p ≡ place.Value vr start end) (lies : PlaceLies d p) (b : Bool) (e : b ≡ (eqb vr US && eqb (end - start) 2)) where
+  pub two-bytes : (o : Option Element) → Placed d o p → twoBytes (valueOf US o d) ≡ (if b then some (between d start end) else Opt.none)
+  unfolding if_then_else_
+  two-bytes o q =
+      let n : length (between d start end) ≡ end - start = length-between d start end (value-order d p vr start end is lies) (value-inside d p vr start end is lies) in
+      rw (e, value-at d p vr start end is US o q) (go (eqb vr US) (between d start end) (end - start) n)
+    where
+      go : (t : Bool) (value : List ℕ) (n : ℕ) → length value ≡ n → twoBytes (if t then some value else Opt.none) ≡ (if t && eqb n 2 then some value else Opt.none)
+      go true value n h = rw h
+      go false value n h = refl
+
+module _ (d : List ℕ) (p : Place) (start end vr from to : ℕ) (is : p ≡ place.Value vr from to) (lies : PlaceLies d p) (b : Bool) (e : b ≡ (eqb vr US && eqb (to - from) 2)) where
+  pub id-other : b ≡ false → HasId d p start end false
+  unfolding if_then_else_
+  id-other t = record { says = λ o q. rw (two-bytes d p vr from to is lies b e o q, t) }
+
+  pub id-same : (r : Bool) → b ≡ true → r ≡ sameBytes (take (to - from) (drop from d)) (take (end - start) (drop start d)) → HasId d p start end r
+  unfolding if_then_else_ between
+  id-same r t w = record { says = λ o q. rw (two-bytes d p vr from to is lies b e o q, t) w }
+
+module _ (d : List ℕ) (w : Wanted) (index : ℕ) (id : Place) where
+  pub wanted-number : (number : ℕ) → w ≡ wanted.Index number → IsWanted d w index id (eqb index number)
+  wanted-number number e es q = rw e
+
+  module _ (start end : ℕ) (e : w ≡ wanted.Id start end) where
+    pub wanted-order : WantedLies d w → start ≤ end
+    wanted-order l = (rw e at l) .0
+
+    pub wanted-inside : WantedLies d w → end ≤ length d
+    wanted-inside l = (rw e at l) .1
+
+    pub wanted-id : (r : Bool) → HasId d id start end r → IsWanted d w index id r
+    unfolding macIdOf
+    wanted-id r h es q = rw e (h .says (find macIdNumber es) q)
+
+-- ---- 21
+same-byte : (l : List ℕ) (i : ℕ) → i < length l → getD l i 1 ≡ getD l i 0
+same-byte l i h = cc (drop-cons l i 1 h, drop-cons l i 0 h)
+
+pub nul-empty : (value : List ℕ) → length value ≡ 0 → LessNul value 0
+unfolding lessNul if_then_else_
+nul-empty [] h = record { within = omega arith; is = refl }
+nul-empty (x ∷ value) h = absurd (omega arith)
+
+module _ (value : List ℕ) (n : ℕ) (e : n ≡ length value) (h : n ≡ 0 → ⊥) where
+  last : getD value (length value - 1) 1 ≡ getD value (n - 1) 0
+  last = rw e (same-byte value (length value - 1) (omega arith))
+
+  pub nul-last : getD value (n - 1) 0 ≡ 0 → LessNul value (n - 1)
+  unfolding lessNul if_then_else_
+  nul-last k = record { within = omega arith; is = rw (last, eq-eqb (getD value (n - 1) 0) 0 k, e) }
+
+  pub nul-none : (getD value (n - 1) 0 ≡ 0 → ⊥) → LessNul value n
+  unfolding lessNul if_then_else_
+  nul-none k = record { within = omega arith; is = rw (last, ne-eqb (getD value (n - 1) 0) 0 k, e) (take-length value) }
+
+pub uid-empty : (uid value : List ℕ) → length value ≡ 0 → true ≡ badTransferSyntax uid (some value)
+unfolding badTransferSyntax
+uid-empty uid value h = rw (eq-eqb (length value) 0 h)
+
+module _ (uid value : List ℕ) (n : ℕ) (l : LessNul value n) where
+  pub uid-count : n ≡ length (take n value)
+  uid-count = sym (length-take-le n value (l .within))
+
+  module _ (h : length value ≡ 0 → ⊥) (b : Bool) (e : b ≡ sameBytes (take n value) uid) where
+    pub uid-other : b ≡ false → true ≡ badTransferSyntax uid (some value)
+    unfolding badTransferSyntax
+    uid-other t = rw (ne-eqb (length value) 0 h, ← l .is, ← e, t)
+
+    module _ (t : b ≡ true) (f : Bool) (g : f ≡ sameBytes (take n value) implicitVrLittleEndian) where
+      pub uid-implicit : f ≡ true → true ≡ badTransferSyntax uid (some value)
+      unfolding badTransferSyntax
+      uid-implicit u = rw (ne-eqb (length value) 0 h, ← l .is, ← e, t, ← g, u)
+
+      pub uid-rest : (r : Bool) → f ≡ false → r ≡ sameBytes (take n value) explicitVrBigEndian → r ≡ badTransferSyntax uid (some value)
+      unfolding badTransferSyntax
+      uid-rest r u w = rw (ne-eqb (length value) 0 h, ← l .is, ← e, t, ← g, u) w
+
+-- ---- 22
+pub record SpacesLoop (s : List ℕ) (i : ℕ) : Type 0 where
+  pub inside : i ≤ length s
+  pub same : onlySpaces s ≡ onlySpaces (drop i s)
+
+pub spaces-start : (s : List ℕ) → SpacesLoop s 0
+spaces-start s = record { inside = omega arith; same = refl }
+
+no-bytes : (s : List ℕ) → length s ≡ 0 → onlySpaces s ≡ true
+unfolding onlySpaces
+no-bytes [] h = refl
+no-bytes (x ∷ s) h = absurd (omega arith)
+
+module _ (s : List ℕ) (i : ℕ) (l : SpacesLoop s i) where
+  spaces-on : i < length s → onlySpaces s ≡ (eqb (getD s i 0) 0x20 && onlySpaces (drop (i + 1) s))
+  unfolding onlySpaces
+  spaces-on h = l .same ∙ rw (drop-one s i h)
+
+  pub spaces-other : i < length s → (getD s i 0 ≡ 0x20 → ⊥) → false ≡ onlySpaces s
+  spaces-other h k = sym (spaces-on h ∙ rw (ne-eqb (getD s i 0) 0x20 k))
+
+  pub spaces-again : i < length s → getD s i 0 ≡ 0x20 → SpacesLoop s (i + 1)
+  spaces-again h k = record { inside = omega arith; same = spaces-on h ∙ rw (eq-eqb (getD s i 0) 0x20 k) }
+
+  pub spaces-end : length s ≤ i → true ≡ onlySpaces s
+  spaces-end h = sym (l .same ∙ no-bytes (drop i s) (simp length-drop (omega arith)))
+
+pub term-short : (value : List ℕ) → length value < 6 → false ≡ isTerm SHA256 value
+unfolding isTerm
+term-short value h = rw (← same-lengths (take 6 value) SHA256 (λ e. omega (arith, simp length-take at e)))
+
+pub term-count : (value : List ℕ) → 6 ≤ length value → 6 ≡ length (take 6 value)
+term-count value h = sym (length-take-le 6 value h)
+
+module _ (value : List ℕ) (b : Bool) (e : b ≡ sameBytes (take 6 value) SHA256) where
+  pub term-other : b ≡ false → false ≡ isTerm SHA256 value
+  unfolding isTerm
+  term-other t = rw (← e, t)
+
+  pub term-spaces : (r : Bool) → b ≡ true → r ≡ onlySpaces (take (length value - 6) (drop 6 value)) → r ≡ isTerm SHA256 value
+  unfolding isTerm
+  term-spaces r t w = rw (← e, t) (w ∙ ap onlySpaces (take-all (length value - 6) (drop 6 value) (simp length-drop (omega arith))))
+
+pub not-term : (value : List ℕ) (b : Bool) → b ≡ isTerm SHA256 value → not b ≡ badAlgorithm (some value)
+unfolding badAlgorithm
+not-term value b e = rw e

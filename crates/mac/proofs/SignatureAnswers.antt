@@ -1,0 +1,55 @@
+-- Signature mode: 17 is not given, and a refusal of the selection has a number from 18 on. Assumes nothing.
+use Prim.Native.Nat.{ℕ, _≤_}
+use mathlib.Core.Path.{_≡_}
+use mathlib.Core.Logic.{_≢_}
+use mathlib.Core.Bool.{Bool, true, false}
+use mathlib.Core.List.{List}
+use mathlib.Core.Option.{Option, some}
+use mathlib.Core.Option as Opt
+use native.Mathlib.Omega.{arith}
+use Rattle.answer.specs.If.{if_then_else_}
+use Rattle.dataset.specs.Vr.{AT, CS, UI}
+use Rattle.dataset.specs.Tree.{Elements}
+use Rattle.dataset.specs.Lookup.{find}
+use Rattle.mac.specs.TagList.{tagsIn}
+use Rattle.mac.specs.Modes.{tagsAnswer}
+use Rattle.mac.specs.SignatureMode.{macCalculationTransferSyntaxUid, macAlgorithm, dataElementsSigned, valueOf, need, Selection, refusal, selected, signatureItem, macIdOf, parametersItem, parametersSelect, select, badTransferSyntax, badAlgorithm, meets}
+use Rattle.mac.proofs.ListedElements.{never-met}
+use Rattle.mac.proofs.OwnContent.{own-never-met}
+
+-- ---- 17 is not given
+
+pub own-unmet : (list : List ℕ) (item es : Elements) (d : List ℕ) → tagsAnswer 0 (tagsIn list) es .number ≡ 0 → meets list item es d ≡ false
+unfolding meets
+own-unmet list item es d h = rw (never-met (tagsIn list) es d h, own-never-met item d)
+
+-- ---- a refusal of the selection has a number from 18 on
+abbrev pub Numbered : Selection → Type 0
+Numbered (refusal number) = 18 ≤ number
+Numbered (selected list item) = Unit {0}
+
+needs : {A : Type 0} (number : ℕ) (o : Option A) (on : A → Selection) → 18 ≤ number → ((a : A) → Numbered (on a)) → Numbered (need number o on)
+needs number Opt.none on h k = h
+needs number (some a) on h k = k a
+
+tests : (b : Bool) (number : ℕ) (s : Selection) → 18 ≤ number → Numbered s → Numbered (if b then refusal number else s)
+unfolding if_then_else_
+tests true number s h k = h
+tests false number s h k = k
+
+parameters-numbered : (uid d : List ℕ) (item parameters : Elements) → Numbered (parametersSelect uid d item parameters)
+unfolding parametersSelect
+parameters-numbered uid d item parameters =
+    tests (badTransferSyntax uid (valueOf UI (find macCalculationTransferSyntaxUid parameters) d)) 21 _ (omega arith)
+    (tests (badAlgorithm (valueOf CS (find macAlgorithm parameters) d)) 22 _ (omega arith)
+    (needs 23 (valueOf AT (find dataElementsSigned parameters) d) (λ list. selected list item) (omega arith) λ list. tt))
+
+pub select-numbered : (uid : List ℕ) (number : ℕ) (es : Elements) (d : List ℕ) → Numbered (select uid number es d)
+unfolding select
+select-numbered uid number es d =
+    needs 18 (signatureItem number es) _ (omega arith) λ item.
+    needs 19 (macIdOf item d) (λ id. need 20 (parametersItem id es d) (parametersSelect uid d item)) (omega arith) λ id.
+    needs 20 (parametersItem id es d) (parametersSelect uid d item) (omega arith) (parameters-numbered uid d item)
+
+pub selected-number : (uid : List ℕ) (number : ℕ) (es : Elements) (d : List ℕ) (k : ℕ) → select uid number es d ≡ refusal k → k ≢ 0
+selected-number uid number es d k e z = let n : Numbered (refusal k) = rw e at (select-numbered uid number es d) in omega arith

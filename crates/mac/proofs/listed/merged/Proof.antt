@@ -1,0 +1,59 @@
+-- `merged` meets its contract: each place by its law in MergeSteps, TagListSteps. Assumes nothing.
+use Rattle.mac.proofs.MergeSteps as steps
+use Rattle.mac.proofs.TagListSteps as tags
+use borrow.Author.Needs.{needs}
+use Rattle.mac.proofs.listed.merged.Statement.{statement}
+use Rattle.mac.proofs.listed.merged.Tie as tie
+
+returns : tie.Need-returns
+returns c = search steps.merged-none
+
+tag-at-requires : tie.Need-tag-at-requires
+tag-at-requires c κs = search (tags.tag-inside, needs)
+
+returns-2 : tie.Need-returns-2
+returns-2 c = search steps.merged-before
+
+stopped-requires : tie.Need-stopped-requires
+stopped-requires c κs = search needs
+
+returns-3 : tie.Need-returns-3
+returns-3 c = search steps.merged-absent
+
+stopped-requires-2 : tie.Need-stopped-requires-2
+stopped-requires-2 c κs = search needs
+
+returns-4 : tie.Need-returns-4
+returns-4 c = search steps.merged-unknown
+
+stopped-requires-3 : tie.Need-stopped-requires-3
+stopped-requires-3 c κs = search needs
+
+returns-5 : tie.Need-returns-5
+returns-5 c = search steps.merged-holds
+
+accepted-requires : tie.Need-accepted-requires
+accepted-requires c κs = search needs
+
+add-t11 : tie.Need-add-t11
+add-t11 c = search needs
+
+returns-6 : tie.Need-returns-6
+returns-6 c = search steps.merged-found
+
+pub merged-spec : {M : Type 1} → statement M
+merged-spec =
+    tie.close
+    (tie.spec
+    returns
+    tag-at-requires
+    returns-2
+    stopped-requires
+    returns-3
+    stopped-requires-2
+    returns-4
+    stopped-requires-3
+    returns-5
+    accepted-requires
+    add-t11
+    returns-6)

@@ -1,0 +1,70 @@
+-- `write_all` meets its contract: each place by its law in AllSteps. Assumes nothing.
+use Rattle.mac.proofs.AllSteps as steps
+use borrow.Author.Needs.{needs}
+use Rattle.mac.proofs.modes.write_all.Statement.{statement}
+use Rattle.mac.proofs.modes.write_all.Tie as tie
+
+walk-list-requires : tie.Need-walk-list-requires
+walk-list-requires c κs = search needs
+
+same-length : tie.Need-same-length
+same-length c = search needs
+
+returns : tie.Need-returns
+returns c = search steps.all-refused
+
+enum-known-after : tie.Need-enum-known-after
+enum-known-after c = search needs
+
+enum-told : tie.Need-enum-told
+enum-told c = search needs
+
+same-length-2 : tie.Need-same-length-2
+same-length-2 c = search needs
+
+returns-2 : tie.Need-returns-2
+returns-2 c = search steps.all-listed
+
+write-own-requires : tie.Need-write-own-requires
+write-own-requires c κs = search (steps.own-lies, steps.own-onto)
+
+enum-known-fault : tie.Need-enum-known-fault
+enum-known-fault c = search needs
+
+enum-known-to : tie.Need-enum-known-to
+enum-known-to c = search needs
+
+accepted-requires : tie.Need-accepted-requires
+accepted-requires c κs = search needs
+
+same-length-3 : tie.Need-same-length-3
+same-length-3 c = search needs
+
+returns-3 : tie.Need-returns-3
+returns-3 c = search steps.own-refused
+
+same-length-4 : tie.Need-same-length-4
+same-length-4 c = search needs
+
+returns-4 : tie.Need-returns-4
+returns-4 c = search steps.own-written
+
+pub write-all-spec : {M : Type 1} → statement M
+write-all-spec =
+    tie.close
+    (tie.spec
+    walk-list-requires
+    same-length
+    returns
+    enum-known-after
+    enum-told
+    same-length-2
+    returns-2
+    write-own-requires
+    enum-known-fault
+    enum-known-to
+    accepted-requires
+    same-length-3
+    returns-3
+    same-length-4
+    returns-4)

@@ -1,0 +1,87 @@
+-- `choose` meets its contract: the invariant is `ChooseLoop`, and each place is a law of ChooseSteps. Assumes nothing.
+use Rattle.mac.proofs.ChooseSteps as steps
+use borrow.Author.Needs.{needs}
+use Prim.Native.Nat.{_-_}
+use Rattle.mac.proofs.selection.choose.Statement.{statement}
+use Rattle.mac.proofs.selection.choose.Tie as tie
+
+abbrev Inv-loop : tie.InvT-loop
+Inv-loop d x wanted at₀ index₀ at index = steps.ChooseLoop d x wanted at index
+
+abbrev μ-loop : tie.MeasureT-loop
+μ-loop d x wanted at₀ index₀ at index = x .stop - at
+
+loop-holds : tie.Need-loop-holds Inv-loop μ-loop
+loop-holds c = search steps.choose-start
+
+item-header-requires : tie.Need-item-header-requires Inv-loop μ-loop
+item-header-requires c κs = search needs
+
+enum-told : tie.Need-enum-told Inv-loop μ-loop
+enum-told c = search needs
+
+returns : tie.Need-returns Inv-loop μ-loop
+returns c = search steps.choose-refused
+
+enum-told-2 : tie.Need-enum-told-2 Inv-loop μ-loop
+enum-told-2 c = search needs
+
+returns-2 : tie.Need-returns-2 Inv-loop μ-loop
+returns-2 c = search steps.choose-end
+
+enum-known-start : tie.Need-enum-known-start Inv-loop μ-loop
+enum-known-start c = search needs
+
+sub-t14 : tie.Need-sub-t14 Inv-loop μ-loop
+sub-t14 c = search needs
+
+seek-requires : tie.Need-seek-requires Inv-loop μ-loop
+seek-requires c κs = search steps.item-lies
+
+enum-told-3 : tie.Need-enum-told-3 Inv-loop μ-loop
+enum-told-3 c = search needs
+
+returns-3 : tie.Need-returns-3 Inv-loop μ-loop
+returns-3 c = search steps.item-refused
+
+enum-known-id : tie.Need-enum-known-id Inv-loop μ-loop
+enum-known-id c = search needs
+
+is-wanted-requires : tie.Need-is-wanted-requires Inv-loop μ-loop
+is-wanted-requires c κs = search steps.id-lies
+
+returns-4 : tie.Need-returns-4 Inv-loop μ-loop
+returns-4 c = search steps.choose-found
+
+add-index : tie.Need-add-index Inv-loop μ-loop
+add-index c = search needs
+
+loop-less : tie.Need-loop-less Inv-loop μ-loop
+loop-less c = search steps.choose-less
+
+loop-again : tie.Need-loop-again Inv-loop μ-loop
+loop-again c = search steps.choose-again
+
+pub choose-spec : {M : Type 1} → statement M
+choose-spec =
+    tie.close
+    (tie.spec
+    Inv-loop
+    μ-loop
+    loop-holds
+    item-header-requires
+    enum-told
+    returns
+    enum-told-2
+    returns-2
+    enum-known-start
+    sub-t14
+    seek-requires
+    enum-told-3
+    returns-3
+    enum-known-id
+    is-wanted-requires
+    returns-4
+    add-index
+    loop-less
+    loop-again)

@@ -1,0 +1,21 @@
+-- `signature_check` meets its contract. Assumes nothing.
+use Rattle.mac.proofs.SignatureSteps as steps
+use borrow.Author.Needs.{needs}
+use Rattle.mac.proofs.signature_mode.signature_check.Statement.{statement}
+use Rattle.mac.proofs.signature_mode.signature_check.Tie as tie
+
+signature-into-requires : tie.Need-signature-into-requires
+signature-into-requires c κs = search needs
+
+check-of-requires : tie.Need-check-of-requires
+check-of-requires c κs = search (steps.signature-room, needs)
+
+same-length : tie.Need-same-length
+same-length c = search needs
+
+returns : tie.Need-returns
+returns c = search steps.signature-checked
+
+pub signature-check-spec : {M : Type 1} → statement M
+signature-check-spec =
+    tie.close (tie.spec signature-into-requires check-of-requires same-length returns)

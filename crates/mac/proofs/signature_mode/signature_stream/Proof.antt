@@ -1,0 +1,17 @@
+-- `signature_stream` meets its contract. Assumes nothing.
+use Rattle.mac.proofs.SignatureSteps as steps
+use borrow.Author.Needs.{needs}
+use Rattle.mac.proofs.signature_mode.signature_stream.Statement.{statement}
+use Rattle.mac.proofs.signature_mode.signature_stream.Tie as tie
+
+signature-into-requires : tie.Need-signature-into-requires
+signature-into-requires c κs = search needs
+
+same-length : tie.Need-same-length
+same-length c = search needs
+
+returns : tie.Need-returns
+returns c = search steps.signature-streamed
+
+pub signature-stream-spec : {M : Type 1} → statement M
+signature-stream-spec = tie.close (tie.spec signature-into-requires same-length returns)

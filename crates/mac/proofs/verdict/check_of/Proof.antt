@@ -1,0 +1,34 @@
+-- `check_of` meets its contract: each place by its law in CheckSteps. Assumes nothing.
+use Rattle.mac.proofs.CheckSteps as steps
+use borrow.Author.Needs.{needs}
+use Rattle.mac.proofs.verdict.check_of.Statement.{statement}
+use Rattle.mac.proofs.verdict.check_of.Tie as tie
+
+returns : tie.Need-returns
+returns c = search steps.check-refused
+
+slice-aggregate-sha256 : tie.Need-slice-aggregate-sha256
+slice-aggregate-sha256 c = search (steps.check-count, needs)
+
+sha256-requires : tie.Need-sha256-requires
+sha256-requires c κs = search needs
+
+slice-aggregate-verdict-of : tie.Need-slice-aggregate-verdict-of
+slice-aggregate-verdict-of c = search needs
+
+verdict-of-requires : tie.Need-verdict-of-requires
+verdict-of-requires c κs = search needs
+
+returns-2 : tie.Need-returns-2
+returns-2 c = search steps.check-said
+
+pub check-of-spec : {M : Type 1} → statement M
+check-of-spec =
+    tie.close
+    (tie.spec
+    returns
+    slice-aggregate-sha256
+    sha256-requires
+    slice-aggregate-verdict-of
+    verdict-of-requires
+    returns-2)

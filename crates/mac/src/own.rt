@@ -1,0 +1,108 @@
+// The signature item's own elements, which follow the listed ones.
+use crate::extent::Extent;
+use crate::tag_list;
+use crate::writer;
+use crate::writer::Keep;
+use crate::writer::OneWritten;
+use crate::writer::Written;
+ghost use mathlib.Core.Path.{_≡_};
+ghost use mathlib.Core.Bool.{_||_};
+ghost use Prim.Native.Nat.{_+_, _≤_};
+ghost use lib.ListN.{length};
+ghost use Rattle.mac.specs.TagList.{barred};
+ghost use Rattle.mac.specs.SignatureMode.{named};
+ghost use Rattle.mac.specs.Writer.{walked, Walk};
+ghost use Rattle.mac.specs.Selecting.{Lies, elementsIn};
+ghost use Rattle.mac.specs.Own.{ownStream, noUnknown, ownKeep};
+
+// Whether this is one of the four tags that the signature item leaves out by name.
+fn is_named(tag: u32) -> bool
+    ensures { λ r. ⌜ r ≡ named tag ⌝ }
+{
+    if tag == 0x04000115 {
+        return true;
+    }
+    if tag == 0x04000120 {
+        return true;
+    }
+    if tag == 0x04000305 {
+        return true;
+    }
+    tag == 0x04000310
+}
+
+// Whether an element of this tag, which is UN or holds UN, is left out.
+fn is_left_out(tag: u32, unknown: bool, holds: bool) -> bool
+    ensures { λ r. ⌜ r ≡ (named tag || (barred tag || (unknown || holds))) ⌝ }
+{
+    let barred = tag_list::is_barred(tag);
+    let any_unknown = writer::either(unknown, holds);
+    writer::either(is_named(tag), writer::either(barred, any_unknown))
+}
+
+// Which element is kept of what was read in an element's place.
+fn own_keep(seen: OneWritten) -> Keep
+    ensures { λ r. ⌜ r ≡ ownKeep seen ⌝ }
+{
+    match seen {
+        OneWritten::Refused(_) => Keep::Nothing,
+        OneWritten::End(_) => Keep::Nothing,
+        OneWritten::Element {
+            tag,
+            unknown,
+            holds_unknown,
+            next: _,
+            to: _,
+        } => {
+            if is_left_out(tag, unknown, holds_unknown) {
+                return Keep::Nothing;
+            }
+            Keep::Only(tag)
+        }
+    }
+}
+
+// Writes the signature item's own elements, from `onto` on. Each is walked over before it is written: only then it is known whether UN
+// stands in it.
+pub(crate) fn write_own(d: &[u8], x: Extent, out: &mut [u8], onto: usize) -> Written
+    requires { ⌜ Lies (now d) x × (onto ≤ x .from + length (now d)) ⌝ }
+    ensures { λ r. ⌜ Walk (walked noUnknown ownStream) ownStream (elementsIn (now (d .entry)) x) (now (d .entry)) onto r (now (out .entry)) (now (out .exit)) ⌝ }
+{
+    let mut at = x.from;
+    let mut least: u64 = 0;
+    let mut to = onto;
+    loop {
+        let mut nothing = [0u8; 0];
+        let seen = writer::write_one(
+            d,
+            x.delimited,
+            x.left,
+            x.stop,
+            at,
+            least,
+            Keep::Nothing,
+            &mut nothing,
+            0,
+        );
+        let keep = own_keep(seen);
+        match writer::write_one(d, x.delimited, x.left, x.stop, at, least, keep, out, to) {
+            OneWritten::Refused(fault) => return Written::Refused(fault),
+            OneWritten::End(next) => return Written::Past {
+                unknown: false,
+                next,
+                to,
+            },
+            OneWritten::Element {
+                tag,
+                unknown: _,
+                holds_unknown: _,
+                next,
+                to: past,
+            } => {
+                at = next;
+                least = tag as u64 + 1;
+                to = past;
+            }
+        }
+    }
+}

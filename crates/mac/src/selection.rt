@@ -1,0 +1,326 @@
+// What signature mode selects, 18 to 23: the signature item, and the list of its MAC parameters item.
+use crate::bytes;
+use crate::extent::Extent;
+use crate::seek;
+use crate::seek::Place;
+use crate::seek::Sought;
+use answer::Answer;
+use dataset::header;
+use dataset::header::ItemHeader;
+use dataset::vr;
+ghost use mathlib.Core.Path.{_≡_};
+ghost use mathlib.Core.Bool.{_&&_};
+ghost use Prim.Native.Nat.{_+_, _-_, _≤_, _<_};
+ghost use lib.Dec.{eqb};
+ghost use lib.ListN.{length};
+ghost use Rattle.dataset.specs.Vr.{US};
+ghost use mathlib.Core.Option.{some};
+ghost use Rattle.answer.specs.Answer as Spec;
+ghost use Rattle.mac.specs.SignatureMode.{badTransferSyntax, SHA256, onlySpaces, isTerm};
+ghost use Rattle.mac.specs.Selecting.{Lies, elementsIn, itemsIn, PlaceLies, HasId, WantedLies, IsWanted, ChosenIn, ItemOf, LessNul, BadSyntax, BadAlgorithm, ListOf, Stands, SelectOf, SelectedIn};
+ghost use Rattle.mac.specs.declared.selection.Selection.the-variants as selection;
+
+const MAC_ID_NUMBER: u32 = 0x04000005;
+
+const MAC_CALCULATION_TRANSFER_SYNTAX_UID: u32 = 0x04000010;
+
+const MAC_ALGORITHM: u32 = 0x04000015;
+
+const DATA_ELEMENTS_SIGNED: u32 = 0x04000020;
+
+const MAC_PARAMETERS_SEQUENCE: u32 = 0x4FFE0001;
+
+const DIGITAL_SIGNATURES_SEQUENCE: u32 = 0xFFFAFFFA;
+
+// Which item of a sequence is meant: by its number from 0, or by its MAC ID Number, the bytes of the data set from start to end.
+pub(crate) enum Wanted {
+    Index(u64),
+    Id { start: usize, end: usize },
+}
+
+// No such item; or the item's data set, and what stands in it under (0400,0005) and (0400,0020).
+pub(crate) enum Chosen {
+    Nothing,
+    Item {
+        inside: Extent,
+        id: Place,
+        list: Place,
+    },
+}
+
+// What is selected: a refusal; or the list, the bytes of the data set from start to end, and the data set of the signature item.
+pub(crate) enum Selection {
+    Refused(Answer),
+    Selected {
+        start: usize,
+        end: usize,
+        item: Extent,
+    },
+}
+
+// Whether an element of this VR and extent is a MAC ID Number.
+fn is_id(vr: u16, start: usize, end: usize) -> bool
+    requires { ⌜ start ≤ end ⌝ }
+    ensures { λ r. ⌜ r ≡ (eqb vr US && eqb (end - start) 2) ⌝ }
+{
+    if vr != vr::US {
+        return false;
+    }
+    end - start == 2
+}
+
+// Whether a MAC ID Number stands in this place, with the same bytes as from start to end.
+fn has_id(d: &[u8], p: Place, start: usize, end: usize) -> bool
+    requires { ⌜ PlaceLies (now d) p × (start ≤ end) × (end ≤ length (now d)) ⌝ }
+    ensures { λ r. ⌜ HasId (now (d .entry)) p start end r ⌝ }
+{
+    let Place::Value {
+        vr,
+        start: from,
+        end: to,
+    } = p
+    else {
+        return false;
+    };
+    if !is_id(vr, from, to) {
+        return false;
+    }
+    bytes::same_bytes(&d[from..to], &d[start..end])
+}
+
+// Whether the item with this number from 0, whose MAC ID Number stands in this place, is meant.
+fn is_wanted(d: &[u8], wanted: Wanted, index: u64, id: Place) -> bool
+    requires { ⌜ WantedLies (now d) wanted × PlaceLies (now d) id ⌝ }
+    ensures { λ r. ⌜ IsWanted (now (d .entry)) wanted index id r ⌝ }
+{
+    match wanted {
+        Wanted::Index(number) => index == number,
+        Wanted::Id { start, end } => has_id(d, id, start, end),
+    }
+}
+
+// The first item that is meant.
+fn choose(d: &[u8], x: Extent, wanted: Wanted) -> Chosen
+    requires { ⌜ Lies (now d) x × (0 < x .left) × WantedLies (now d) wanted ⌝ }
+    ensures { λ r. ⌜ ChosenIn (now (d .entry)) wanted 0 (itemsIn (now (d .entry)) x) r ⌝ }
+{
+    let mut at = x.from;
+    let mut index: u64 = 0;
+    loop {
+        match header::item_header(d, true, x.delimited, x.stop, at) {
+            ItemHeader::Refused(_) => return Chosen::Nothing,
+            ItemHeader::End(_) => return Chosen::Nothing,
+            ItemHeader::Item {
+                start,
+                end,
+                delimited,
+            } => {
+                let inside = Extent {
+                    delimited,
+                    left: x.left - 1,
+                    stop: end,
+                    from: start,
+                };
+                match seek::seek(d, inside, MAC_ID_NUMBER, DATA_ELEMENTS_SIGNED) {
+                    Sought::Refused(_) => return Chosen::Nothing,
+                    Sought::Past {
+                        first: id,
+                        second: list,
+                        next,
+                    } => {
+                        if is_wanted(d, wanted, index, id) {
+                            return Chosen::Item { inside, id, list };
+                        }
+                        at = next;
+                        index += 1;
+                    }
+                }
+            }
+        }
+    }
+}
+
+// The first item that is meant, of what stands under a tag.
+fn item_of(d: &[u8], p: Place, wanted: Wanted) -> Chosen
+    requires { ⌜ PlaceLies (now d) p × WantedLies (now d) wanted ⌝ }
+    ensures { λ r. ⌜ ItemOf (now (d .entry)) p wanted r ⌝ }
+{
+    let Place::Items(x) = p else {
+        return Chosen::Nothing;
+    };
+    choose(d, x, wanted)
+}
+
+// How many bytes a value has, less one trailing NUL.
+fn less_nul(value: &[u8]) -> usize
+    ensures { λ r. ⌜ LessNul (now (value .entry)) r ⌝ }
+{
+    let n = value.len();
+    if n == 0 {
+        return 0;
+    }
+    if value[n - 1] == 0 {
+        return n - 1;
+    }
+    n
+}
+
+// 21, of a value.
+fn bad_uid(uid: &[u8], value: &[u8]) -> bool
+    ensures { λ r. ⌜ r ≡ badTransferSyntax (now (uid .entry)) (some (now (value .entry))) ⌝ }
+{
+    if value.len() == 0 {
+        return true;
+    }
+    let n = less_nul(value);
+    if !bytes::same_bytes(&value[..n], uid) {
+        return true;
+    }
+    if bytes::same_bytes(&value[..n], b"1.2.840.10008.1.2") {
+        return true;
+    }
+    bytes::same_bytes(&value[..n], b"1.2.840.10008.1.2.2")
+}
+
+// 21: whether the transfer syntax in this place is refused.
+fn bad_syntax(uid: &[u8], d: &[u8], p: Place) -> bool
+    requires { ⌜ PlaceLies (now d) p ⌝ }
+    ensures { λ r. ⌜ BadSyntax (now (uid .entry)) (now (d .entry)) p r ⌝ }
+{
+    let Place::Value { vr, start, end } = p else {
+        return true;
+    };
+    if vr != vr::UI {
+        return true;
+    }
+    bad_uid(uid, &d[start..end])
+}
+
+// Whether all bytes are spaces.
+fn only_spaces(s: &[u8]) -> bool
+    ensures { λ r. ⌜ r ≡ onlySpaces (now (s .entry)) ⌝ }
+{
+    let mut i = 0;
+    while i < s.len() {
+        if s[i] != 0x20 {
+            return false;
+        }
+        i += 1;
+    }
+    true
+}
+
+// Whether a value is SHA256, with trailing spaces ignored.
+fn is_sha256(value: &[u8]) -> bool
+    ensures { λ r. ⌜ r ≡ isTerm SHA256 (now (value .entry)) ⌝ }
+{
+    if value.len() < 6 {
+        return false;
+    }
+    if !bytes::same_bytes(&value[..6], b"SHA256") {
+        return false;
+    }
+    only_spaces(&value[6..])
+}
+
+// 22: whether the algorithm in this place is refused.
+fn bad_algorithm(d: &[u8], p: Place) -> bool
+    requires { ⌜ PlaceLies (now d) p ⌝ }
+    ensures { λ r. ⌜ BadAlgorithm (now (d .entry)) p r ⌝ }
+{
+    let Place::Value { vr, start, end } = p else {
+        return true;
+    };
+    if vr != vr::CS {
+        return true;
+    }
+    !is_sha256(&d[start..end])
+}
+
+// A refusal of the selection.
+fn refused(number: u8) -> Selection
+    ensures { λ r. ⌜ r ≡ selection.Refused (Spec.refused number 0) ⌝ }
+{
+    Selection::Refused(Answer::refused(number, 0))
+}
+
+// 21 to 23: the list in the parameters item.
+fn list_of(uid: &[u8], d: &[u8], item: Extent, parameters: Extent, list: Place) -> Selection
+    requires { ⌜ Lies (now d) item × Lies (now d) parameters × PlaceLies (now d) list ⌝ }
+    ensures { λ r. ⌜ ListOf (now (uid .entry)) (now (d .entry)) item parameters list r ⌝ }
+{
+    let fields = seek::seek(
+        d,
+        parameters,
+        MAC_CALCULATION_TRANSFER_SYNTAX_UID,
+        MAC_ALGORITHM,
+    );
+    let Sought::Past {
+        first: syntax,
+        second: algorithm,
+        next: _,
+    } = fields
+    else {
+        return refused(21);
+    };
+    if bad_syntax(uid, d, syntax) {
+        return refused(21);
+    }
+    if bad_algorithm(d, algorithm) {
+        return refused(22);
+    }
+    let Place::Value { vr, start, end } = list else {
+        return refused(23);
+    };
+    if vr != vr::AT {
+        return refused(23);
+    }
+    Selection::Selected { start, end, item }
+}
+
+// 18 to 23, by what stands under the tags of the two sequences.
+fn select_from(uid: &[u8], number: u64, d: &[u8], parameters: Place, signatures: Place) -> Selection
+    requires { ⌜ Stands (now d) parameters × Stands (now d) signatures ⌝ }
+    ensures { λ r. ⌜ SelectOf (now (uid .entry)) number (now (d .entry)) parameters signatures r ⌝ }
+{
+    let signature = item_of(d, signatures, Wanted::Index(number));
+    let Chosen::Item {
+        inside: item,
+        id,
+        list: _,
+    } = signature
+    else {
+        return refused(18);
+    };
+    let Place::Value { vr, start, end } = id else {
+        return refused(19);
+    };
+    if !is_id(vr, start, end) {
+        return refused(19);
+    }
+    let chosen = item_of(d, parameters, Wanted::Id { start, end });
+    let Chosen::Item {
+        inside,
+        id: _,
+        list,
+    } = chosen
+    else {
+        return refused(20);
+    };
+    list_of(uid, d, item, inside, list)
+}
+
+// What is selected in a data set: its first fault, 18 to 23, or the list and the signature item.
+pub(crate) fn select(uid: &[u8], number: u64, d: &[u8], x: Extent) -> Selection
+    requires { ⌜ Lies (now d) x ⌝ }
+    ensures { λ r. ⌜ SelectedIn (now (uid .entry)) number (now (d .entry)) (elementsIn (now (d .entry)) x) r ⌝ }
+{
+    match seek::seek(d, x, MAC_PARAMETERS_SEQUENCE, DIGITAL_SIGNATURES_SEQUENCE) {
+        Sought::Refused(fault) => Selection::Refused(fault),
+        Sought::Past {
+            first: parameters,
+            second: signatures,
+            next: _,
+        } => select_from(uid, number, d, parameters, signatures),
+    }
+}

@@ -1,0 +1,21 @@
+use mathlib.Core.Path.{sym}
+use lib.Seq.{set-out}
+use Prim.Native.Nat.{ℕ, _+_, _-_, _*_, _<_, _≤_}
+use borrow.Author.Needs.{needs}
+use Rattle.mac_frame.proofs.text.put_byte.Statement.{statement}
+use Rattle.mac_frame.proofs.text.put_byte.Tie as tie
+
+slice-write-text : tie.Need-slice-write-text
+slice-write-text c = search needs
+
+same-length : tie.Need-same-length
+same-length c = search needs
+
+returns : tie.Need-returns
+returns c = search needs
+
+returns-2 : tie.Need-returns-2
+returns-2 c = sym (set-out _ _ _ (c .if1 .left))
+
+pub put-byte-spec : {M : Type 1} → statement M
+put-byte-spec = tie.close (tie.spec slice-write-text same-length returns returns-2)

@@ -1,0 +1,28 @@
+use native.Mathlib.Omega.{arith}
+use Rattle.mac_frame.proofs.TextSteps.{length-decimal, word-wrote}
+use Prim.Native.Nat.{ℕ, _+_, _-_, _*_, _<_, _≤_}
+use borrow.Author.Needs.{needs}
+use Rattle.mac_frame.proofs.text.put_word.Statement.{statement}
+use Rattle.mac_frame.proofs.text.put_word.Tie as tie
+
+put-decimal-requires : tie.Need-put-decimal-requires
+put-decimal-requires c κs = search needs
+
+put-byte-requires : tie.Need-put-byte-requires
+put-byte-requires c κs = search needs
+
+add-result : tie.Need-add-result
+add-result c =
+    let at-decimal = c .before .before .before .before .before .before in
+    let p = at-decimal .put-decimal .ensures .place in
+    omega (arith, length-decimal (at-decimal .before .before .before .args .n) (omega arith))
+
+same-length : tie.Need-same-length
+same-length c = search needs
+
+returns : tie.Need-returns
+returns c = word-wrote _ _ _ _ _ _ _ (c .before .before .before .before .before .before .put-decimal .ensures) (c .before .before .put-byte .ensures)
+
+pub put-word-spec : {M : Type 1} → statement M
+put-word-spec =
+    tie.close (tie.spec put-decimal-requires put-byte-requires add-result same-length returns)

@@ -1,0 +1,3 @@
+// The stream program, on slices.
+pub mod frame;
+mod text;

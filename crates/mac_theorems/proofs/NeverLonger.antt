@@ -1,0 +1,59 @@
+-- The stream of a list whose tags ascend is never longer than the elements of the data set. Assumes nothing.
+use Prim.Native.Nat.{ℕ, _+_, _≤_}
+use mathlib.Core.Path.{_≡_, refl, _∙_}
+use mathlib.Core.Bool.{Bool, true, false}
+use mathlib.Core.List.{List, [], _∷_, _++_}
+use mathlib.Core.Option.{Option, some}
+use mathlib.Core.Option as Opt
+use native.Mathlib.Omega.{arith}
+use lib.Dec.{ltb}
+use lib.ListN.{length, length-append}
+use borrow.Author.Tests.{ltb-false}
+use Rattle.answer.specs.If.{if_then_else_}
+use Rattle.answer.specs.Answer.{refused}
+use Rattle.dataset.specs.Tree.{Element, Elements}
+use Rattle.dataset.specs.Order.{ElementsLie}
+use Rattle.dataset.specs.Lookup.{find}
+use Rattle.dataset.proofs.Order.{elements-end}
+use Rattle.mac.specs.TagList.{ascending}
+use Rattle.mac.specs.Stream.{streamOf, foundStream, listedStream}
+use Rattle.mac.proofs.StreamLength.{element-length}
+use Rattle.mac_theorems.proofs.Found.{found-at}
+
+pub record Ascends (index least tag : ℕ) (tags : List ℕ) : Type 0 where
+  pub first : least ≤ tag
+  pub rest : ascending (index + 1) (tag + 1) tags .number ≡ 0
+
+pub ascends : (index least tag : ℕ) (tags : List ℕ) → ascending index least (tag ∷ tags) .number ≡ 0 → Ascends index least tag tags
+unfolding ascending if_then_else_
+ascends index least tag tags = go (ltb tag least) refl
+  where
+    go : (b : Bool) → ltb tag least ≡ b → (if b then refused 11 index else ascending (index + 1) (tag + 1) tags) .number ≡ 0 → Ascends index least tag tags
+    go true e h = absurd (omega arith)
+    go false e h = record { first = ltb-false tag least e; rest = h }
+
+-- the tags from `least` on stand in `rest`, which is what is left of the elements
+module _ (d : List ℕ) (left next : ℕ) (es : Elements) where
+  abbrev NoLonger : (least : ℕ) → List ℕ → Type 0
+  NoLonger least tags =
+      (rest : Elements) (floor at : ℕ) → ((t : ℕ) → least ≤ t → find t es ≡ find t rest) → ElementsLie rest d left floor at next
+      → length (listedStream tags es d) + at ≤ next
+
+  one-no-longer : (least tag : ℕ) (tags : List ℕ) → least ≤ tag → NoLonger (tag + 1) tags → NoLonger least (tag ∷ tags)
+  unfolding listedStream
+  one-no-longer least tag tags l more rest floor at f r = go (find tag rest) refl
+    where
+      go : (o : Option Element) → find tag rest ≡ o → length (foundStream (find tag es) d ++ listedStream tags es d) + at ≤ next
+      go Opt.none e = rw (f tag l ∙ e) (more rest floor at (λ t k. f t (omega arith)) r)
+      go (some x) e =
+          let g = found-at tag rest d left floor at next r x e in
+          let h = element-length x d left (g .from) (g .mid) (g .lies) in
+          let k = more (g .rest) (tag + 1) (g .mid) (λ t k. f t (omega arith) ∙ g .later t (omega arith)) (g .follow) in
+          rw (f tag l ∙ e) (omega (arith, h .0, h .1, k, g .order, length-append (streamOf x d) (listedStream tags es d)))
+
+  pub listed-no-longer : (index least : ℕ) (tags : List ℕ) → ascending index least tags .number ≡ 0 → NoLonger least tags
+  unfolding listedStream
+  listed-no-longer index least [] a rest floor at f r = let e = elements-end rest d left floor at next r in omega (arith, e .order)
+  listed-no-longer index least (tag ∷ tags) a rest floor at f r =
+      let p = ascends index least tag tags a in
+      one-no-longer least tag tags (p .first) (λ rest floor at f r. listed-no-longer (index + 1) (tag + 1) tags (p .rest) rest floor at f r) rest floor at f r

@@ -1,0 +1,116 @@
+-- The stream of signature mode starts with list mode's for the list that is selected, and its answers from 10 on are list mode's. Assumes nothing.
+use Prim.Native.Nat.{ℕ, _≤_}
+use mathlib.Core.Path.{_≡_, refl, sym, ap, _∙_}
+use mathlib.Core.Bool.{Bool, true, false, true≢false}
+use mathlib.Core.List.{List, _++_}
+use mathlib.Core.Option.{Option}
+use native.Mathlib.Omega.{arith}
+use lib.Dec.{eqb, ltb}
+use lib.ListN.{length, length-append}
+use borrow.Author.Tests.{eqb-true, eqb-false, lt-ltb, ltb-true}
+use Rattle.answer.specs.declared.Answer.{Answer}
+use Rattle.answer.specs.If.{if_then_else_}
+use Rattle.answer.specs.Answer.{accepted, refused, _orElse_}
+use Rattle.answer.proofs.Chain.{or-else-first, or-else-second, or-else-assoc}
+use Rattle.dataset.specs.Tree.{Elements}
+use Rattle.dataset.specs.Reading.{Reading, fault, read, dataSet, answerOf}
+use Rattle.dataset.specs.Lookup.{find}
+use Rattle.mac.specs.TagList.{tagsIn, listAnswer}
+use Rattle.mac.specs.Stream.{elementsStream}
+use Rattle.mac.specs.Modes.{treeOf, tree, tagsAnswer, badDigest, met, tail}
+use Rattle.mac.specs.ListMode as listMode
+use Rattle.mac.specs.SignatureMode.{signatureItem, select, numberOf, selected, own, meets, streamBy, answerBy, Call, selection, stream, answer}
+use Rattle.mac.proofs.ListedElements.{never-met}
+use Rattle.mac.proofs.SignatureAnswers.{own-unmet}
+use Rattle.mac_theorems.specs.Theorems.{asList, SignatureStream}
+use Rattle.mac_theorems.proofs.Acceptance.{IsRead, answer-read}
+
+-- ---- the end of the order, of a stream and of a longer one
+module _ (tags : List ℕ) (es : Elements) (some-met all-met : Bool) (first all : List ℕ) (room : ℕ) (expected : Option (List ℕ))
+    (unmet : tagsAnswer 0 tags es .number ≡ 0 → some-met ≡ false) (unmet′ : tagsAnswer 0 tags es .number ≡ 0 → all-met ≡ false) (l : length first ≤ length all) where
+  abbrev t : Answer
+  t = tagsAnswer 0 tags es
+
+  abbrev whole : Answer
+  whole = if ltb room (length all) then refused 16 0 else accepted (length all)
+
+  -- 16 of the first is 16 of all
+  room-again : (a b : Bool) → ltb room (length first) ≡ a → ltb room (length all) ≡ b
+      → ((if a then refused 16 0 else accepted 0) orElse (if b then refused 16 0 else accepted (length all))) ≡ ((if b then refused 16 0 else accepted 0) orElse accepted (length all))
+  unfolding if_then_else_
+  room-again true true p q = or-else-first (refused 16 0) _ (λ z. omega arith) ∙ sym (or-else-first (refused 16 0) _ (λ z. omega arith))
+  room-again true false p q = absurd (true≢false (sym (lt-ltb room (length all) (omega (arith, ltb-true room (length first) p))) ∙ q))
+  room-again false true p q = or-else-second (accepted 0) _ refl ∙ sym (or-else-first (refused 16 0) _ (λ z. omega arith))
+  room-again false false p q = refl
+
+  -- from 16 on, where none of 13, 14 and 15 is given
+  after : t .number ≡ 0
+      → (((if ltb room (length first) then refused 16 0 else accepted 0) orElse (if some-met then refused 17 0 else accepted 0) orElse accepted (length first)) orElse whole)
+      ≡ ((if ltb room (length all) then refused 16 0 else accepted 0) orElse (if all-met then refused 17 0 else accepted 0) orElse accepted (length all))
+  unfolding if_then_else_
+  after z =
+      or-else-assoc (if ltb room (length first) then refused 16 0 else accepted 0) _ whole
+      ∙ ap (λ (x : Answer). (if ltb room (length first) then refused 16 0 else accepted 0) orElse x)
+      (or-else-assoc (if some-met then refused 17 0 else accepted 0) _ whole
+      ∙ rw (unmet z) (or-else-second (accepted 0) _ refl ∙ or-else-second (accepted (length first)) whole refl))
+      ∙ room-again (ltb room (length first)) (ltb room (length all)) refl refl
+      ∙ ap (λ (x : Answer). (if ltb room (length all) then refused 16 0 else accepted 0) orElse x) (sym (rw (unmet′ z) (or-else-second (accepted 0) _ refl)))
+
+  tail-more : tail tags es all-met all room expected ≡ (tail tags es some-met first room expected orElse whole)
+  unfolding tail
+  tail-more = go (eqb (t .number) 0) refl
+    where
+      digest : Answer
+      digest = if badDigest expected then refused 9 0 else accepted 0
+
+      go : (b : Bool) → eqb (t .number) 0 ≡ b → tail tags es all-met all room expected ≡ (tail tags es some-met first room expected orElse whole)
+      go false e =
+          let n = eqb-false (t .number) 0 e in
+          or-else-first t _ n ∙ sym (or-else-assoc t _ whole ∙ or-else-first t _ n)
+      go true e =
+          let z = eqb-true (t .number) 0 e in
+          or-else-second t _ z
+          ∙ sym (or-else-assoc t _ whole ∙ or-else-second t _ z ∙ or-else-assoc digest _ whole ∙ ap (λ (x : Answer). digest orElse x) (after z))
+
+-- ---- a call that selects a list
+module _ (c : Call) (list : List ℕ) (item : Elements) (e : selection c ≡ selected list item) where
+  abbrev d : List ℕ
+  d = c .set
+
+  streams : stream c ≡ listMode.stream (asList c list) ++ elementsStream (own item) d
+  unfolding stream streamBy listMode.stream
+  streams = rw e
+
+  -- its data set is read: nothing is selected in a refused one
+  is-read : (p : Reading Elements) → dataSet d ≡ p → IsRead d
+  unfolding select signatureItem find
+  is-read (fault f) q =
+      let z : select (c .uid) (numberOf (c .which)) Elements.none d ≡ selected list item = rw q at e in
+      absurd (true≢false (cc))
+  is-read (read es n) q = record { next = n; is = q ∙ ap (λ (x : Elements). read x n) (sym (ap treeOf q)) }
+
+  module _ (r : IsRead d) where
+    abbrev es : Elements
+    es = tree d
+
+    read-number : answerOf (dataSet d) .number ≡ 0
+    read-number = ap (λ (p : Reading Elements). answerOf p .number) (r .is)
+
+    signature-answer : answer c ≡ (listAnswer list orElse tail (tagsIn list) es (meets list item es d) (stream c) (c .room) (c .expected))
+    unfolding answer answerBy stream
+    signature-answer = or-else-second (answerOf (dataSet d)) _ read-number ∙ rw e
+
+    answers : answer c ≡ (listMode.answer (asList c list) orElse (if ltb (c .room) (length (stream c)) then refused 16 0 else accepted (length (stream c))))
+    unfolding listMode.contentOf
+    answers =
+        let n = ap length streams ∙ length-append (listMode.stream (asList c list)) (elementsStream (own item) d) in
+        let m = tail-more (tagsIn list) es (met (listMode.contentOf (asList c list))) (meets list item es d) (listMode.stream (asList c list)) (stream c) (c .room) (c .expected)
+        (never-met (tagsIn list) es d) (own-unmet list item es d) (omega (arith, n)) in
+        signature-answer ∙ ap (λ (x : Answer). listAnswer list orElse x) m
+        ∙ sym (ap (λ (x : Answer). x orElse whole-of) (answer-read (asList c list) r) ∙ or-else-assoc (listAnswer list) _ whole-of)
+      where
+        whole-of : Answer
+        whole-of = if ltb (c .room) (length (stream c)) then refused 16 0 else accepted (length (stream c))
+
+pub signature-stream : SignatureStream
+signature-stream c list item e = record { streams = streams c list item e; answers = answers c list item e (is-read c list item e (dataSet (c .set)) refl) }

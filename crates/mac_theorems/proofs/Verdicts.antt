@@ -1,0 +1,83 @@
+-- What a check says. Assumes nothing.
+use Prim.Native.Nat.{ℕ}
+use mathlib.Core.Path.{_≡_, refl, sym, ap, ap₂, _∙_}
+use mathlib.Core.Logic.{_≢_}
+use mathlib.Core.Bool.{Bool, true, false, _&&_, true≢false, false≢true}
+use mathlib.Core.List.{List, [], _∷_}
+use mathlib.Core.Option.{Option, some}
+use lib.Dec.{eqb}
+use borrow.Author.Tests.{eqb-true, eq-eqb}
+use Rattle.answer.specs.If.{if_then_else_}
+use Rattle.digest.specs.Message.{digestOf}
+use Rattle.digest.specs.Sha256.{sha256}
+use Rattle.mac.specs.Modes.{Result, isAccepted, sameBytes, compared, verdictOf}
+use Rattle.mac.specs.declared.verdict.Verdict.{Verdict}
+use Rattle.mac.specs.declared.verdict.Verdict.the-variants as verdict
+use Rattle.mac_theorems.specs.Theorems.{Says}
+
+-- ---- the comparison
+both-true : (a b : Bool) → a && b ≡ true → (a ≡ true) × (b ≡ true)
+both-true true b h = (refl, h)
+both-true false b h = absurd (false≢true h)
+
+pub same-bytes : (x y : List ℕ) → sameBytes x y ≡ true → x ≡ y
+unfolding sameBytes
+same-bytes [] [] h = refl
+same-bytes [] (b ∷ y) h = absurd (false≢true h)
+same-bytes (a ∷ x) [] h = absurd (false≢true h)
+same-bytes (a ∷ x) (b ∷ y) h =
+    let p = both-true (eqb a b) (sameBytes x y) h in
+    ap₂ (λ (n : ℕ) (z : List ℕ). n ∷ z) (eqb-true a b (p .0)) (same-bytes x y (p .1))
+
+pub bytes-same : (x : List ℕ) → sameBytes x x ≡ true
+unfolding sameBytes
+bytes-same [] = refl
+bytes-same (a ∷ x) = rw (eq-eqb a a refl, bytes-same x)
+
+differ : (x y : List ℕ) → sameBytes x y ≡ false → x ≢ y
+differ x y h e = true≢false (sym (bytes-same x) ∙ ap (sameBytes x) e ∙ h)
+
+-- ---- the verdict
+abbrev verdictBy : (accepted same : Bool) → Verdict
+verdictBy true true = verdict.Same
+verdictBy true false = verdict.Differs
+verdictBy false same = verdict.Neither
+
+module _ (c : Result) (e : List ℕ) (x : c .expected ≡ some e) where
+  abbrev same : Bool
+  same = sameBytes (digestOf sha256 (c .stream)) e
+
+  verdict-by : verdictOf c ≡ verdictBy (isAccepted c) same
+  unfolding verdictOf if_then_else_
+  verdict-by = ap (λ (o : Option (List ℕ)). if isAccepted c then compared o (digestOf sha256 (c .stream)) else verdict.Neither) x ∙ go (isAccepted c) same
+    where
+      go : (a s : Bool) → (if a then (if s then verdict.Same else verdict.Differs) else verdict.Neither) ≡ verdictBy a s
+      go true true = refl
+      go true false = refl
+      go false s = refl
+
+  pub says : Says c e
+  says = go (isAccepted c) same refl refl
+    where
+      go : (a s : Bool) → isAccepted c ≡ a → same ≡ s → Says c e
+      go true true p q =
+          let v : verdictOf c ≡ verdict.Same = verdict-by ∙ ap₂ verdictBy p q in
+          record {
+            same = (λ w. (p, same-bytes _ e q), λ w. v);
+            differs = (λ w. absurd (true≢false (cc)), λ w. absurd (w .1 (same-bytes _ e q)));
+            neither = (λ w. absurd (true≢false (cc)), λ w. absurd (true≢false (sym p ∙ w)));
+          }
+      go true false p q =
+          let v : verdictOf c ≡ verdict.Differs = verdict-by ∙ ap₂ verdictBy p q in
+          record {
+            same = (λ w. absurd (true≢false (cc)), λ w. absurd (differ _ e q (w .1)));
+            differs = (λ w. (p, differ _ e q), λ w. v);
+            neither = (λ w. absurd (true≢false (cc)), λ w. absurd (true≢false (sym p ∙ w)));
+          }
+      go false s p q =
+          let v : verdictOf c ≡ verdict.Neither = verdict-by ∙ ap₂ verdictBy p q in
+          record {
+            same = (λ w. absurd (true≢false (cc)), λ w. absurd (false≢true (sym p ∙ w .0)));
+            differs = (λ w. absurd (true≢false (cc)), λ w. absurd (false≢true (sym p ∙ w .0)));
+            neither = (λ w. p, λ w. v);
+          }

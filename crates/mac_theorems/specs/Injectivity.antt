@@ -1,0 +1,121 @@
+-- Demand 3, for every call in list mode, for the stream or for the check: "equal streams exactly when equal signed contents (no fragments); and any other well-formed data set with the
+-- same signed content (and no UN in a listed sequence) gets the same answer and stream". All of it is the record Demand3, proved in proofs/Injectivity.
+-- Assumes nothing.
+use Prim.Native.Nat.{ℕ, _<_}
+use mathlib.Core.Path.{_≡_}
+use mathlib.Core.Logic.{_↔_, _≢_}
+use mathlib.Core.Bool.{Bool, true, false, _||_}
+use mathlib.Core.List.{List, [], _∷_}
+use mathlib.Core.Option.{Option, some}
+use mathlib.Core.Option as Opt
+use lib.ListN.{length, getD, take}
+use Rattle.dataset.specs.Tree.{Element, Elements}
+use Rattle.dataset.specs.Reading.{WellFormed}
+use Rattle.dataset.specs.Lookup.{find}
+use Rattle.mac.specs.TagList.{tagsIn}
+use Rattle.mac.specs.Content.{SignedElements, someInFragments}
+use Rattle.answer.specs.declared.Answer.{Answer}
+use Rattle.mac.specs.Modes.{holdsUN, tree, isAccepted, verdictOf, outputAfter, Streamed, CheckedAs}
+use Rattle.mac.specs.ListMode.{Call, contentOf, stream, answer, streamCall, checkCall, result}
+use Rattle.mac.specs.declared.verdict.Verdict.the-variants as verdict
+use Rattle.mac.specs.declared.verdict.Checked.{Checked}
+
+-- a list of bytes: a slice of the code's bytes is one; the definitions speak of numbers
+abbrev pub Bytes : List ℕ → Type 0
+Bytes s = (i : ℕ) → getD s i 0 < 256
+
+abbrev pub Accepted : Call → Type 0
+Accepted c = isAccepted (result c) ≡ true
+
+-- "Something signed is in fragments"
+abbrev pub signedInFragments : Option SignedElements → Bool
+signedInFragments Opt.none = false
+signedInFragments (some es) = someInFragments es
+
+-- UN "inside a listed sequence", which "means at any depth, even inside a barred element, as for 15"
+abbrev pub foundHoldsUN : Option Element → Bool
+foundHoldsUN Opt.none = false
+foundHoldsUN (some e) = holdsUN e
+
+unfoldable pub listedHoldUN : (tags : List ℕ) → Elements → Bool
+listedHoldUN [] es = false
+listedHoldUN (tag ∷ tags) es = foundHoldsUN (find tag es) || listedHoldUN tags es
+
+-- the same call on another data set
+abbrev pub on : Call → List ℕ → Call
+on c s = record { list = c .list; set = s; room = c .room; expected = c .expected }
+
+-- First half, of two accepted calls, whatever their data sets and lists, with nothing signed in fragments on either side.
+abbrev pub FirstHalf : Type 0
+FirstHalf =
+    (c k : Call) → Bytes (c .set) → Bytes (k .set) → Accepted c → Accepted k → signedInFragments (contentOf c) ≡ false → signedInFragments (contentOf k) ≡ false
+    → (stream c ≡ stream k) ↔ (contentOf c ≡ contentOf k)
+
+-- Second half, of a call, refused or not, fragments or not, whose data set is well-formed and holds every listed tag: the same call on the other data set has the same answer,
+-- verdict and stream. "No UN in a listed sequence" is said of both data sets.
+pub record SameResult (c k : Call) : Type 0 where
+  pub answers : answer k ≡ answer c
+  pub verdict : verdictOf (result k) ≡ verdictOf (result c)
+  pub streams : stream k ≡ stream c
+
+-- the call's data set is well-formed, holds every listed tag, and has no UN inside a listed sequence
+pub record Signs (c : Call) : Type 0 where
+  pub wellFormed : WellFormed (c .set)
+  pub holds : contentOf c ≢ Opt.none
+  pub known : listedHoldUN (tagsIn (c .list)) (tree (c .set)) ≡ false
+
+abbrev pub SecondHalf : Type 0
+SecondHalf = (c : Call) (s : List ℕ) → Bytes (c .set) → Bytes s → Signs c → Signs (on c s) → contentOf (on c s) ≡ contentOf c → SameResult c (on c s)
+
+-- The same of the calls themselves, by what they give back: r is the answer and the verdict of a call (a call for the stream says neither), and `after`
+-- what it leaves in its output or work buffer `out`.
+pub record Run (c : Call) (out : List ℕ) (r : Checked) (after : List ℕ) : Type 0 where
+  pub room : c .room ≡ length out
+  pub answers : r .answer ≡ answer c
+  pub says : r .verdict ≡ verdictOf (result c)
+  pub output : after ≡ outputAfter (result c) out
+
+-- the stream that a call has written: "the first length bytes" of the output
+abbrev pub written : Checked → List ℕ → List ℕ
+written r after = take (r .answer .length) after
+
+abbrev pub FirstHalfOfCalls : Type 0
+FirstHalfOfCalls =
+    (c k : Call) (out out′ after after′ : List ℕ) (r r′ : Checked) → Run c out r after → Run k out′ r′ after′ → Bytes (c .set) → Bytes (k .set)
+    → r .answer .number ≡ 0 → r′ .answer .number ≡ 0 → signedInFragments (contentOf c) ≡ false → signedInFragments (contentOf k) ≡ false
+    → (written r after ≡ written r′ after′) ↔ (contentOf c ≡ contentOf k)
+
+-- "the two answers are equal, in a check the verdict too, and so are the first length bytes of the two outputs or work buffers"
+pub record SameRun (r r′ : Checked) (after after′ : List ℕ) : Type 0 where
+  pub answers : r′ .answer ≡ r .answer
+  pub verdict : r′ .verdict ≡ r .verdict
+  pub streams : written r′ after′ ≡ written r after
+
+abbrev pub SecondHalfOfCalls : Type 0
+SecondHalfOfCalls =
+    (c : Call) (s out out′ after after′ : List ℕ) (r r′ : Checked) → Run c out r after → Run (on c s) out′ r′ after′ → Bytes (c .set) → Bytes s
+    → Signs c → Signs (on c s) → contentOf (on c s) ≡ contentOf c → SameRun r r′ after after′
+
+-- What `list_stream` and `list_check` promise is such a run: so the two halves speak of what they give back.
+abbrev pub StreamRuns : Type 0
+StreamRuns =
+    (list set out after : List ℕ) (r : Answer) → Streamed (result (streamCall list set out)) out r after
+    → Run (streamCall list set out) out (record { answer = r; verdict = verdict.Neither }) after
+
+abbrev pub CheckRuns : Type 0
+CheckRuns =
+    (list set expected work after : List ℕ) (r : Checked) → CheckedAs (result (checkCall list set expected work)) work r after
+    → Run (checkCall list set expected work) work r after
+
+-- an accepted call's data set is such
+abbrev pub AcceptedSigns : Type 0
+AcceptedSigns = (c : Call) → Accepted c → Signs c
+
+pub record Demand3 : Type 0 where
+  pub first-half : FirstHalf
+  pub second-half : SecondHalf
+  pub stream-runs : StreamRuns
+  pub check-runs : CheckRuns
+  pub first-half-of-calls : FirstHalfOfCalls
+  pub second-half-of-calls : SecondHalfOfCalls
+  pub accepted-signs : AcceptedSigns

@@ -1,0 +1,4 @@
+pub mod Injectivity
+pub mod Theorems
+pub mod Examples
+pub mod SignatureExamples

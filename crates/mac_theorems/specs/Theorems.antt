@@ -1,0 +1,138 @@
+-- What is true of the two modes beside demand 3: statements that a reader of the definitions would ask for, all in the record Theorems, proved in
+-- proofs/Theorems.antt.
+-- Assumes nothing.
+use Prim.Native.Nat.{ℕ, _≤_, _<_}
+use mathlib.Core.Path.{_≡_}
+use mathlib.Core.Logic.{_↔_, _≢_}
+use mathlib.Core.Bool.{true, false}
+use mathlib.Core.List.{List, [], _++_}
+use mathlib.Core.Option.{some}
+use lib.Dec.{ltb}
+use lib.ListN.{length, take, drop}
+use Rattle.answer.specs.declared.Answer.{Answer}
+use Rattle.answer.specs.If.{if_then_else_}
+use Rattle.answer.specs.Answer.{accepted, refused, _orElse_}
+use Rattle.dataset.specs.Tree.{Elements}
+use Rattle.digest.specs.Message.{digestOf}
+use Rattle.digest.specs.Sha256.{sha256}
+use Rattle.mac.specs.TagList.{tagsIn, listAnswer}
+use Rattle.mac.specs.Stream.{elementsStream}
+use Rattle.mac.specs.Modes.{Result, isAccepted, outputAfter, verdictOf}
+use Rattle.mac.specs.ListMode as listMode
+use Rattle.mac.specs.SignatureMode.{Selection, refusal, selected, own}
+use Rattle.mac.specs.SignatureMode as signatureMode
+use Rattle.mac.specs.declared.verdict.Verdict.the-variants as verdict
+
+-- ---- a call in either mode: its data set, its list (empty where none is selected), its output room, and what it comes to
+
+pub data Call : Type 0 where
+  inListMode : listMode.Call → Call
+  inSignatureMode : signatureMode.Call → Call
+
+abbrev pub setOf : Call → List ℕ
+setOf (inListMode c) = c .set
+setOf (inSignatureMode c) = c .set
+
+abbrev pub selectedList : Selection → List ℕ
+selectedList (refusal number) = []
+selectedList (selected list item) = list
+
+abbrev pub listOf : Call → List ℕ
+listOf (inListMode c) = c .list
+listOf (inSignatureMode c) = selectedList (signatureMode.selection c)
+
+abbrev pub roomOf : Call → ℕ
+roomOf (inListMode c) = c .room
+roomOf (inSignatureMode c) = c .room
+
+abbrev pub resultOf : Call → Result
+resultOf (inListMode c) = listMode.result c
+resultOf (inSignatureMode c) = signatureMode.result c
+
+-- ---- every answer
+
+-- 17 cannot come: a UN that would be written inside a listed sequence makes 15 come before, and such sequences are left out of the signature item's own.
+abbrev pub Never17 : Type 0
+Never17 = (c : Call) → resultOf c .answer .number ≢ 17
+
+-- "Positions: 2 to 8 an offset in the data set; 11 to 15 an index into the list from 0 ..; others 0." An offset may be the data set's length, where a header is missing.
+pub record Positioned (size count : ℕ) (a : Answer) : Type 0 where
+  pub offset : 2 ≤ a .number → a .number ≤ 8 → a .position ≤ size
+  pub index : 11 ≤ a .number → a .number ≤ 15 → a .position < count
+  pub below2 : a .number < 2 → a .position ≡ 0
+  pub of9and10 : 8 < a .number → a .number < 11 → a .position ≡ 0
+  pub above15 : 15 < a .number → a .position ≡ 0
+
+abbrev pub Positions : Type 0
+Positions = (c : Call) → Positioned (length (setOf c)) (length (tagsIn (listOf c))) (resultOf c .answer)
+
+-- "For 0 the position is 0 and the first length bytes of the output are the stream; later bytes are untouched." The output keeps its length.
+pub record StreamIn (c : Result) (out : List ℕ) : Type 0 where
+  pub answers : c .answer ≡ accepted (length (c .stream))
+  pub first : take (c .answer .length) (outputAfter c out) ≡ c .stream
+  pub later : drop (c .answer .length) (outputAfter c out) ≡ drop (c .answer .length) out
+  pub room : length (outputAfter c out) ≡ length out
+
+abbrev pub AcceptedOutput : Type 0
+AcceptedOutput = (c : Call) (out : List ℕ) → isAccepted (resultOf c) ≡ true → roomOf c ≡ length out → StreamIn (resultOf c) out
+
+-- "A refusal has length 0 and touches no output byte."
+pub record NothingIn (c : Result) (out : List ℕ) : Type 0 where
+  pub nothing : c .answer .length ≡ 0
+  pub untouched : outputAfter c out ≡ out
+
+abbrev pub RefusedOutput : Type 0
+RefusedOutput = (c : Call) (out : List ℕ) → isAccepted (resultOf c) ≡ false → NothingIn (resultOf c) out
+
+-- A check with the expected digest e says "same" exactly when it is accepted and the digest of its stream equals e, "differs" exactly when it is
+-- accepted and the digest is another, and neither exactly when it is refused.
+pub record Says (c : Result) (e : List ℕ) : Type 0 where
+  pub same : (verdictOf c ≡ verdict.Same) ↔ ((isAccepted c ≡ true) × (digestOf sha256 (c .stream) ≡ e))
+  pub differs : (verdictOf c ≡ verdict.Differs) ↔ ((isAccepted c ≡ true) × (digestOf sha256 (c .stream) ≢ e))
+  pub neither : (verdictOf c ≡ verdict.Neither) ↔ (isAccepted c ≡ false)
+
+abbrev pub VerdictExact : Type 0
+VerdictExact = (c : Call) (e : List ℕ) → resultOf c .expected ≡ some e → Says (resultOf c) e
+
+-- ---- "The stream is never longer than the data set"
+
+-- wherever the list is not refused, so in every accepted call; in signature mode, where a list is selected
+abbrev pub ListNeverLonger : Type 0
+ListNeverLonger = (c : listMode.Call) → listAnswer (c .list) .number ≡ 0 → length (listMode.stream c) ≤ length (c .set)
+
+abbrev pub SignatureNeverLonger : Type 0
+SignatureNeverLonger =
+    (c : signatureMode.Call) (list : List ℕ) (item : Elements) → signatureMode.selection c ≡ selected list item → listAnswer list .number ≡ 0
+    → length (signatureMode.stream c) ≤ length (c .set)
+
+-- so an output as long as the data set is always enough
+abbrev pub EnoughRoom : Type 0
+EnoughRoom = (c : Call) → length (setOf c) ≤ roomOf c → resultOf c .answer .number ≢ 16
+
+-- ---- signature mode and list mode
+
+-- list mode with the list that a call in signature mode selects
+abbrev pub asList : signatureMode.Call → (list : List ℕ) → listMode.Call
+asList c list = record { list = list; set = c .set; room = c .room; expected = c .expected }
+
+-- The stream is list mode's for the list that is selected, and after it the signature item's own elements. "10, 11, 12, and on as before": where list mode refuses, signature mode
+-- gives the same answer; else only 16 can come, for the whole stream.
+pub record ListsFirst (c : signatureMode.Call) (list : List ℕ) (item : Elements) : Type 0 where
+  pub streams : signatureMode.stream c ≡ listMode.stream (asList c list) ++ elementsStream (own item) (c .set)
+  pub answers : signatureMode.answer c
+      ≡ (listMode.answer (asList c list) orElse (if ltb (c .room) (length (signatureMode.stream c)) then refused 16 0 else accepted (length (signatureMode.stream c))))
+
+abbrev pub SignatureStream : Type 0
+SignatureStream = (c : signatureMode.Call) (list : List ℕ) (item : Elements) → signatureMode.selection c ≡ selected list item → ListsFirst c list item
+
+-- all of them
+pub record Theorems : Type 0 where
+  pub never-17 : Never17
+  pub positions : Positions
+  pub accepted-output : AcceptedOutput
+  pub refused-output : RefusedOutput
+  pub verdict-exact : VerdictExact
+  pub list-never-longer : ListNeverLonger
+  pub signature-never-longer : SignatureNeverLonger
+  pub enough-room : EnoughRoom
+  pub signature-stream : SignatureStream

@@ -1,0 +1,1 @@
+// Theorems about list mode and signature mode: definitions and proofs alone, with no function.
