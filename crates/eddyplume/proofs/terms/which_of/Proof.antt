@@ -1,0 +1,14 @@
+-- `which_of` meets its contract. Assumes nothing.
+use Rattle.eddyplume.proofs.BoundarySteps as steps
+use borrow.Author.Needs.{needs}
+use Rattle.eddyplume.proofs.terms.which_of.Statement.{statement}
+use Rattle.eddyplume.proofs.terms.which_of.Tie as tie
+
+returns : tie.Need-returns
+returns c = search steps.which-number
+
+returns-2 : tie.Need-returns-2
+returns-2 c = search steps.which-none
+
+pub which-of-spec : {M : Type 1} → statement M
+which-of-spec = tie.close (tie.spec returns returns-2)

@@ -1,0 +1,45 @@
+// Answers and verdicts in C's terms.
+use answer::Answer;
+use mac::signature_mode::Signature;
+use mac::verdict::Verdict;
+ghost use mathlib.Core.Path.{_≡_};
+ghost use mathlib.Core.List.{[], _∷_};
+ghost use Rattle.eddyplume.specs.Boundary.{answerWords, verdictCode, whichOf, word};
+
+// Number, position, length.
+pub(crate) fn answer_words(a: Answer) -> [u64; 3]
+    ensures { λ r. ⌜ r ≡ answerWords a ⌝ }
+{
+    [a.number as u64, a.position as u64, a.length as u64]
+}
+
+// 0 neither, 1 same, 2 differs.
+pub(crate) fn verdict_code(v: Verdict) -> u8
+    ensures { λ r. ⌜ r ≡ verdictCode v ⌝ }
+{
+    match v {
+        Verdict::Neither => 0,
+        Verdict::Same => 1,
+        Verdict::Differs => 2,
+    }
+}
+
+// A signature number, or none.
+pub(crate) fn which_of(numbered: bool, number: u64) -> Signature
+    ensures { λ r. ⌜ r ≡ whichOf numbered number ⌝ }
+{
+    if numbered {
+        return Signature::Number(number);
+    }
+    Signature::Unnamed
+}
+
+// 1 for yes, 0 for no.
+pub(crate) fn word_of(yes: bool) -> u64
+    ensures { λ r. ⌜ r ≡ word yes ⌝ }
+{
+    if yes {
+        return 1;
+    }
+    0
+}
