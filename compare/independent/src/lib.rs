@@ -1,5 +1,5 @@
-//! An independent, literal implementation of the definition document
-//! `01-scope.md`. Quotations in the comments are sentences of that document;
+//! An independent, literal implementation of the definition document, "01".
+//! Quotations in the comments are sentences of that document;
 //! "(a)" to "(l)" are the readings listed in README.md.
 
 #![forbid(unsafe_code)]

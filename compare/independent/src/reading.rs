@@ -42,13 +42,13 @@ pub const ITEM_DELIMITATION: Tag = Tag::new(0xFFFE, 0xE00D);
 pub const SEQUENCE_DELIMITATION: Tag = Tag::new(0xFFFE, 0xE0DD);
 
 /// "Short, two-byte length".
-const SHORT_FORM: [&[u8; 2]; 21] = [
+pub const SHORT_FORM: [&[u8; 2]; 21] = [
     b"AE", b"AS", b"AT", b"CS", b"DA", b"DS", b"DT", b"FL", b"FD", b"IS", b"LO", b"LT", b"PN",
     b"SH", b"SL", b"SS", b"ST", b"TM", b"UI", b"UL", b"US",
 ];
 
 /// "Long, two reserved zero bytes, then a four-byte length".
-const LONG_FORM: [&[u8; 2]; 6] = [b"OB", b"OW", b"OF", b"SQ", b"UT", b"UN"];
+pub const LONG_FORM: [&[u8; 2]; 6] = [b"OB", b"OW", b"OF", b"SQ", b"UT", b"UN"];
 
 /// One element of a data set, lent from the data.
 #[derive(Clone, Debug, PartialEq, Eq)]

@@ -1,0 +1,184 @@
+//! What is printed for a case, by the independent implementation.
+
+use crate::case::{write_state, Case, Expected};
+use crate::spelling::write_hex;
+use independent::sha256::{sha256, RunningDigest};
+use independent::{
+    frame, list_mode, lookup, reading, signature_mode, CheckAnswer, StreamAnswer, Verdict,
+};
+
+/// What is printed for one line of the case file.
+pub fn expected_lines(line: &[u8]) -> Vec<u8> {
+    if line.is_empty() || line[0] == b'#' {
+        return Vec::new();
+    }
+    let fields: Vec<&[u8]> = line.split(|&byte| byte == b' ').collect();
+    let mut out = fields[0].to_vec();
+    match Case::read(&fields[1..]) {
+        Some(case) => out.extend_from_slice(&printed(&case)),
+        None => out.extend_from_slice(b" ?\n"),
+    }
+    out
+}
+
+/// What is printed behind the name.
+fn printed(case: &Case) -> Vec<u8> {
+    match case {
+        Case::Read { data } => {
+            let reading = reading::read(data);
+            line(format!("{} {}", reading.number, reading.position))
+        }
+        Case::Lookup { tag, data } => {
+            let found = lookup::lookup(data, *tag);
+            let stands = if found.stands { "yes" } else { "no" };
+            let head = format!("{} {} {} {}", found.number, found.position, stands, found.length);
+            line_with_hex(head, found.value)
+        }
+        Case::List { room, list, data } => stream_line(list_mode::stream(data, list, *room)),
+        Case::ListCheck { room, expected, list, data } => {
+            let expected = expected_digest(expected, || list_mode::stream(data, list, *room));
+            check_line(list_mode::check(data, list, &expected, *room))
+        }
+        Case::Signature { room, uid, which, data } => {
+            stream_line(signature_mode::stream(data, uid, *which, *room))
+        }
+        Case::SignatureCheck { room, expected, uid, which, data } => {
+            let expected =
+                expected_digest(expected, || signature_mode::stream(data, uid, *which, *room));
+            check_line(signature_mode::check(data, uid, *which, &expected, *room))
+        }
+        Case::Frame { input } => [b"\n".to_vec(), frame::run(input).text].concat(),
+        Case::Digest { parts } => {
+            let finished = parts
+                .iter()
+                .fold(RunningDigest::start(), |running, part| running.feed(part).next)
+                .finish();
+            line_with_hex(finished.number.to_string(), &finished.digest)
+        }
+        Case::Feed { state, bytes } => {
+            let fed = state.feed(bytes);
+            line(format!("{} {}", fed.number, write_state(&fed.next)))
+        }
+        Case::Finish { state } => {
+            let finished = state.finish();
+            line_with_hex(finished.number.to_string(), &finished.digest)
+        }
+    }
+}
+
+/// The expected digest as bytes.
+pub fn expected_digest(expected: &Expected, stream: impl FnOnce() -> StreamAnswer) -> Vec<u8> {
+    match expected {
+        Expected::Bytes(bytes) => bytes.clone(),
+        Expected::RightDigest => match stream().stream {
+            Some(stream) => sha256(&stream).to_vec(),
+            None => vec![0; 32],
+        },
+    }
+}
+
+/// The line of `list` and `signature`.
+fn stream_line(answer: StreamAnswer) -> Vec<u8> {
+    let head = format!("{} {} {}", answer.number, answer.position, answer.length);
+    line_with_hex(head, answer.stream.as_deref().unwrap_or(&[]))
+}
+
+/// The line of `list-check` and `signature-check`.
+fn check_line(answer: CheckAnswer) -> Vec<u8> {
+    let verdict = match answer.verdict {
+        Verdict::Neither => "neither",
+        Verdict::Same => "same",
+        Verdict::Differs => "differs",
+    };
+    line(format!("{} {} {} {verdict}", answer.number, answer.position, answer.length))
+}
+
+/// `head`, then a space and the bytes in lower case hex where there are any.
+fn line_with_hex(head: String, bytes: &[u8]) -> Vec<u8> {
+    if bytes.is_empty() {
+        return line(head);
+    }
+    line(format!("{head} {}", write_hex(bytes)))
+}
+
+fn line(fields: String) -> Vec<u8> {
+    format!(" {fields}\n").into_bytes()
+}
+
+#[cfg(test)]
+mod tests {
+    use super::expected_lines;
+
+    fn says(line: &str, expected: &str) {
+        let out = expected_lines(line.as_bytes());
+        assert_eq!(String::from_utf8(out).unwrap(), expected, "{line}");
+    }
+
+    const A: &str = "08006000435302004354";
+    const B: &str = "10001000504E02004C69";
+    const DIGEST_OF_NOTHING: &str =
+        "e3b0c44298fc1c149afbf4c8996fb92427ae41e4649b934ca495991b7852b855";
+
+    #[test]
+    fn lines_without_a_case_print_nothing() {
+        says("", "");
+        says("# a read 00", "");
+    }
+
+    #[test]
+    fn each_kind() {
+        says("r read -", "r 0 0\n");
+        says("r read 00", "r 2 0\n");
+        says("r read [00*1048577]", "r 1 0\n");
+        says(&format!("l lookup 00080060 {A}{B}"), "l 0 0 yes 2 4354\n");
+        says(&format!("l lookup 00080061 {A}{B}"), "l 0 0 no 0\n");
+        says("l lookup 00080060 0800600043530000", "l 0 0 yes 0\n");
+        says(&format!("l lookup 00080060 {A}{A}"), "l 4 10 no 0\n");
+        says(&format!("s list 10 08006000 {A}{B}"), &format!("s 0 0 10 {}\n", A.to_lowercase()));
+        says(&format!("s list 9 08006000 {A}{B}"), "s 16 0 0\n");
+        says(&format!("c list-check 10 sha256 08006000 {A}"), "c 0 0 10 same\n");
+        says(&format!("c list-check 10 [00*32] 08006000 {A}"), "c 0 0 10 differs\n");
+        says(&format!("c list-check 10 - 08006000 {A}"), "c 9 0 0 neither\n");
+        says(&format!("c list-check 9 sha256 08006000 {A}"), "c 16 0 0 neither\n");
+        says("g signature 0 - none -", "g 18 0 0\n");
+        says("g signature-check 0 sha256 - 0 -", "g 18 0 0 neither\n");
+        says("f frame 02", "f\n24 0 0\n");
+        says(
+            &format!("f frame 01000000040800600000000014{A}{B}"),
+            "f\n0 0 10\n08006000435302004354\n",
+        );
+        says("d digest -", &format!("d 0 {DIGEST_OF_NOTHING}\n"));
+        says("d digest - - [61*0]", &format!("d 0 {DIGEST_OF_NOTHING}\n"));
+        says(
+            "d digest 61 [62*1]63",
+            "d 0 ba7816bf8f01cfea414140de5dae2223b00361a396177a9cb410ff61f20015ad\n",
+        );
+        let words = "6a09e667bb67ae853c6ef372a54ff53a510e527f9b05688c1f83d9ab5be0cd19";
+        let waiting = format!("61{}", "00".repeat(63));
+        says(
+            &format!("e feed {words} [00*64] 0 0 61"),
+            &format!("e 0 {words} {waiting} 1 1\n"),
+        );
+        says(
+            &format!("e feed {words} {waiting} 2 1 61"),
+            &format!("e 25 {words} {waiting} 2 1\n"),
+        );
+        says(&format!("e finish {words} [00*64] 0 0"), &format!("e 0 {DIGEST_OF_NOTHING}\n"));
+        says(&format!("e finish {words} [00*64] 1 0"), &format!("e 25 {}\n", "00".repeat(32)));
+    }
+
+    #[test]
+    fn cases_not_understood() {
+        for case in [
+            "", "read", "read 0", "read 0g", "read 00 00", "read  00", "read [00]", "read [*3]",
+            "read [00*]", "read [00*3", "read ]", "read [00*-1]", "read -00", "read +1",
+            "read [00*99999999999999999999]", "reed 00", "lookup 0008006 -", "lookup 000800600 -",
+            "list x 00 00", "list 1 00", "signature 1 00 nil 00", "frame", "digest", "digest zz",
+            "list-check 1 SHA256 00 00", "signature-check 1 sha256 00 00",
+            "feed 00 [00*64] 0 0 -", "finish [00*32] [00*63] 0 0", "finish [00*32] [00*64] 0",
+        ] {
+            says(&format!("n {case}"), "n ?\n");
+        }
+        says("n", "n ?\n");
+    }
+}
