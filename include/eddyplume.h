@@ -86,11 +86,12 @@ void eddyplume_list_check(const uint8_t *list, size_t list_len, const uint8_t *d
  *
  * uid, uid_len      the UID of the data set's transfer syntax, without padding
  * numbered, number  which item of the Digital Signatures Sequence (FFFA,FFFA), counted from 0; not numbered means 0
+ * data, out, answer as in list mode
  */
 void eddyplume_signature_stream(const uint8_t *uid, size_t uid_len, bool numbered, uint64_t number,
                                 const uint8_t *data, size_t data_len, uint8_t *out, size_t out_len, uint64_t answer[3]);
 
-/* Signature mode: whether the SHA-256 digest of the stream is the expected one. */
+/* Signature mode: whether the SHA-256 digest of the stream is the expected one. expected, work and verdict as in list mode. */
 void eddyplume_signature_check(const uint8_t *uid, size_t uid_len, bool numbered, uint64_t number,
                                const uint8_t *data, size_t data_len, const uint8_t *expected, size_t expected_len,
                                uint8_t *work, size_t work_len, uint64_t answer[3], uint8_t verdict[1]);
@@ -105,7 +106,7 @@ void eddyplume_signature_check(const uint8_t *uid, size_t uid_len, bool numbered
  */
 void eddyplume_lookup(const uint8_t *data, size_t data_len, uint32_t tag, uint64_t answer[3], uint64_t part[3]);
 
-/* The SHA-256 digest of a message. answer: 0, or 25, which writes no digest. */
+/* The SHA-256 digest of a message, into digest. answer: 0, or 25, which writes no digest. */
 void eddyplume_sha256(const uint8_t *message, size_t message_len, uint8_t digest[32], uint64_t answer[3]);
 
 /*
