@@ -197,9 +197,12 @@ fn signatures(data: &[u8], asked: &Asked) -> Vec<Option<usize>> {
 /// `compare stream`: the archive's stream of one file to standard output.
 pub fn run_stream(words: &[String]) -> Result<ExitCode, Stop> {
     let (asked, names) = Asked::read(words)?;
-    let ([name], true) = (&names[..], asked.list.is_none() || asked.signature.is_none()) else {
-        return Err(Stop::Usage("one file, and a list or a signature, are needed".to_string()));
+    let [name] = &names[..] else {
+        return Err(Stop::Usage("one file is needed".to_string()));
     };
+    if asked.list.is_some() && asked.signature.is_some() {
+        return Err(Stop::Usage("--list or --signature, not both".to_string()));
+    }
     let bytes = std::fs::read(name).map_err(|error| Stop::failed(name, error))?;
     let file = part10::read(&bytes).map_err(|why| Stop::failed(name, why))?;
     let stream = Stream::of(file.data, |out| match (&asked.list, asked.signature) {

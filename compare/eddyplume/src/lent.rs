@@ -56,7 +56,7 @@ pub fn signature_stream(
             uid.as_ptr(),
             uid.len(),
             which.is_some(),
-            which.unwrap_or(0),
+            which.unwrap_or(0), // not read where `numbered` is false
             data.as_ptr(),
             data.len(),
             out.as_mut_ptr(),
@@ -80,7 +80,7 @@ pub fn signature_check(
             uid.as_ptr(),
             uid.len(),
             which.is_some(),
-            which.unwrap_or(0),
+            which.unwrap_or(0), // not read where `numbered` is false
             data.as_ptr(),
             data.len(),
             expected.as_ptr(),

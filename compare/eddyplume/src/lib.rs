@@ -1,5 +1,5 @@
 //! The proved archive libeddyplume.a as safe Rust functions. What the numbers
-//! mean is said in include/eddyplume.h and README.md.
+//! mean is said in include/eddyplume.h and docs/NUMBERS.md.
 //!
 //! The functions here return plain structs; those of [`lent`] write into
 //! arrays of the caller's, as the C functions do.

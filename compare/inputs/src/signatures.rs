@@ -13,7 +13,7 @@ use independent::signature_mode::{
 
 pub const EXPLICIT_VR_LITTLE_ENDIAN: &str = "1.2.840.10008.1.2.1";
 
-/// Transfer syntaxes that may be signed in; one has an odd length.
+/// Transfer syntaxes that may be signed in; one has an even length.
 const GOOD_UIDS: [&str; 4] = [
     EXPLICIT_VR_LITTLE_ENDIAN,
     "1.2.840.10008.1.2.5",
