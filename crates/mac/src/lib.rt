@@ -1,4 +1,13 @@
-// The MAC stream of DICOM C.12.1.1.3: the tag list, the stream, list mode and signature mode.
+// The MAC stream of DICOM C.12.1.1.3.
+//
+// list_mode, signature_mode  the calls
+// modes                      what both share: the list, 9 and 16, the two walks
+// selection, over seek       18 to 23
+// tag_list                   10, 11, 12
+// listed                     13, 14, 15: the merge of list and data set
+// own                        the signature item's own elements
+// writer                     the walk that reads, finds UN, measures and writes
+// verdict                    same or differs
 mod bytes;
 mod extent;
 pub mod list_mode;

@@ -41,7 +41,7 @@ fn stopped(count: usize, number: u8, index: usize) -> Listed
     }
 }
 
-// What is found after one element more: whether it is UN, whether it holds UN, and where its stream ends.
+// What is found after one element more, by its tag, whether it is UN, whether it holds UN, and where its stream ends.
 fn merged(list: &[u8], before: Listed, tag: u32, unknown: bool, holds: bool, to: usize) -> Listed
     ensures { λ r. ⌜ r ≡ mergedOf (length (now (list .entry)) / 4) (tagsIn (drop (4 * before .index) (now (list .entry)))) before tag unknown holds to ⌝ }
 {

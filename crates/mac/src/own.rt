@@ -15,23 +15,31 @@ ghost use Rattle.mac.specs.Writer.{walked, Walk};
 ghost use Rattle.mac.specs.Selecting.{Lies, elementsIn};
 ghost use Rattle.mac.specs.Own.{ownStream, noUnknown, ownKeep};
 
+const CERTIFICATE_OF_SIGNER: u32 = 0x04000115;
+
+const SIGNATURE: u32 = 0x04000120;
+
+const CERTIFIED_TIMESTAMP_TYPE: u32 = 0x04000305;
+
+const CERTIFIED_TIMESTAMP: u32 = 0x04000310;
+
 // Whether this is one of the four tags that the signature item leaves out by name.
 fn is_named(tag: u32) -> bool
     ensures { λ r. ⌜ r ≡ named tag ⌝ }
 {
-    if tag == 0x04000115 {
+    if tag == CERTIFICATE_OF_SIGNER {
         return true;
     }
-    if tag == 0x04000120 {
+    if tag == SIGNATURE {
         return true;
     }
-    if tag == 0x04000305 {
+    if tag == CERTIFIED_TIMESTAMP_TYPE {
         return true;
     }
-    tag == 0x04000310
+    tag == CERTIFIED_TIMESTAMP
 }
 
-// Whether an element of this tag, which is UN or holds UN, is left out.
+// Whether an element is left out, by its tag, whether it is UN and whether it holds UN.
 fn is_left_out(tag: u32, unknown: bool, holds: bool) -> bool
     ensures { λ r. ⌜ r ≡ (named tag || (barred tag || (unknown || holds))) ⌝ }
 {
@@ -40,7 +48,7 @@ fn is_left_out(tag: u32, unknown: bool, holds: bool) -> bool
     writer::either(is_named(tag), writer::either(barred, any_unknown))
 }
 
-// Which element is kept of what was read in an element's place.
+// What the writing walk keeps of the element that the first walk saw.
 fn own_keep(seen: OneWritten) -> Keep
     ensures { λ r. ⌜ r ≡ ownKeep seen ⌝ }
 {

@@ -85,6 +85,7 @@ fn place_on(d: &[u8], x: Extent, at: usize, least: u64, before: Place, tag: u32,
     if is_there(before) {
         return before;
     }
+    // read again: `read_one` does not say whether a delimiter closes a sequence
     let h = header::header(d, x.delimited, x.left, x.stop, at, least);
     place_by(x.left, h)
 }

@@ -6,6 +6,7 @@ ghost use lib.ListN.{length};
 ghost use Rattle.dataset.specs.Bytes.{num16, tagAt};
 ghost use Rattle.mac.specs.TagList.{barred, tagsIn, badSize, ascending, unbarred, listAnswer};
 
+// As dataset::bytes has it: those functions require their place inside the data, so they are not public.
 fn wide(b: u8) -> u32
     ensures { λ r. ⌜ (r ≡ b) × (r < 256) ⌝ }
 {

@@ -274,7 +274,7 @@ fn write_element(
     }
 }
 
-// Writes what stands at `at` in an element's place, if it is kept. An element that is not kept is walked over all the same, for its faults
+// Writes what stands at `at` in an element's place, if it is kept, from `to` on. Other parameters as of header::header. An element that is not kept is walked over all the same, for its faults
 // and for UN inside it.
 pub(crate) fn write_one(
     d: &[u8],

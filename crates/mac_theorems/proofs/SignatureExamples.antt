@@ -10,10 +10,10 @@ use Rattle.dataset.specs.Lookup.{find}
 use Rattle.mac.specs.TagList.{tagsIn, barred, badSize, ascending, unbarred, listAnswer}
 use Rattle.mac.specs.Content.{signed, content}
 use Rattle.mac.specs.Stream.{streamOf, listedStream}
-use Rattle.mac.specs.Modes.{holdsUN, elementAnswer, tagsAnswer, metInSequence, sameBytes, tail, outputAfter}
+use Rattle.mac.specs.Modes.{writesUN, holdsUN, elementAnswer, tagsAnswer, metInSequence, sameBytes, tail, outputAfter}
 use Rattle.mac.specs.SignatureMode.{valueOf, firstItem, signatureItem, macIdOf, parametersItem, lessNul, badTransferSyntax, onlySpaces, isTerm, badAlgorithm, parametersSelect, select, named, leftOut, own, meets, streamBy, answerBy, stream, answer}
 use Rattle.mac_theorems.specs.SignatureExamples.{examples, SignatureExamplesHold}
 
 pub signature-examples-hold : SignatureExamplesHold
-unfolding examples answer answerBy streamBy meets own leftOut named select parametersSelect badAlgorithm isTerm onlySpaces badTransferSyntax lessNul parametersItem macIdOf signatureItem firstItem valueOf sameBytes tail outputAfter stream _orElse_ if_then_else_ listAnswer badSize ascending unbarred barred tagsIn tagsAnswer elementAnswer holdsUN metInSequence content signed listedStream streamOf find dataSet elementsAt elementsBy byHeader byOne byItem elementAt vrOnAt byForm longAt badLength tooDeep undefinedBy definedBy valueBy itemAt itemBy endsAt closedBy formOf oneOf num16 num32 tagAt vrAt between
+unfolding examples answer answerBy streamBy meets own leftOut named select parametersSelect badAlgorithm isTerm onlySpaces badTransferSyntax lessNul parametersItem macIdOf signatureItem firstItem valueOf sameBytes tail outputAfter stream _orElse_ if_then_else_ listAnswer badSize ascending unbarred barred tagsIn tagsAnswer elementAnswer holdsUN writesUN metInSequence content signed listedStream streamOf find dataSet elementsAt elementsBy byHeader byOne byItem elementAt vrOnAt byForm longAt badLength tooDeep undefinedBy definedBy valueBy itemAt itemBy endsAt closedBy formOf oneOf num16 num32 tagAt vrAt between
 signature-examples-hold = refl

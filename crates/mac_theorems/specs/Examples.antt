@@ -89,7 +89,7 @@ item = 0xFE ∷ 0xFF ∷ 0x00 ∷ 0xE0 ∷ []
 abbrev itemDelimiter : List ℕ
 itemDelimiter = 0xFE ∷ 0xFF ∷ 0x0D ∷ 0xE0 ∷ []
 
-abbrev sequenceDelimiter : List ℕ
+abbrev pub sequenceDelimiter : List ℕ
 sequenceDelimiter = 0xFE ∷ 0xFF ∷ 0xDD ∷ 0xE0 ∷ []
 
 -- ---- the data sets and streams of the examples 5 to 9

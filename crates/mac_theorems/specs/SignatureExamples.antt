@@ -1,4 +1,4 @@
--- Examples of signature mode: one small data set, and from it each of 18 to 23 and 10. They are ours: 01 has none for this mode. Proved together in
+-- Examples of signature mode: one small data set, one whose signature item has every kind of element that is left out, and from the first each of 18 to 23 and 10. They are ours: 01 has none for this mode. Proved together in
 -- proofs/SignatureExamples.antt.
 -- Assumes nothing.
 use Prim.Native.Nat.{ℕ, _+_}
@@ -11,7 +11,7 @@ use Rattle.mac.specs.Modes.{outputAfter}
 use Rattle.mac.specs.SignatureMode.{streamCall, answer, result}
 use Rattle.mac.specs.declared.signature_mode.Signature.{Signature}
 use Rattle.mac.specs.declared.signature_mode.Signature.the-variants as signature
-use Rattle.mac_theorems.specs.Examples.{untouched, A, modality, SQ, OB, long, item}
+use Rattle.mac_theorems.specs.Examples.{untouched, A, modality, SQ, OB, long, item, sequenceDelimiter}
 
 pub record Example : Type 0 where
   pub uid : List ℕ
@@ -20,14 +20,14 @@ pub record Example : Type 0 where
   pub answers : Answer
   pub stream : List ℕ
 
--- what the call answers, and the output after it; the room of 32 bytes is more than enough
+-- what the call answers, and the output after it; the room of 64 bytes is more than enough
 abbrev pub given : Example → Answer × List ℕ
 given x =
-    let c = streamCall (x .uid) (x .which) (x .set) (untouched 32) in
-    (answer c, outputAfter (result c) (untouched 32))
+    let c = streamCall (x .uid) (x .which) (x .set) (untouched 64) in
+    (answer c, outputAfter (result c) (untouched 64))
 
 abbrev pub expected : Example → Answer × List ℕ
-expected x = (x .answers, x .stream ++ drop (length (x .stream)) (untouched 32))
+expected x = (x .answers, x .stream ++ drop (length (x .stream)) (untouched 64))
 
 -- ---- the parts
 
@@ -62,16 +62,45 @@ listed = signed 0x41 0x54 0x04 modality
 abbrev parameters : (n : ℕ) (elements : List ℕ) → List ℕ
 parameters n elements = 0xFE ∷ 0x4F ∷ 0x01 ∷ 0x00 ∷ SQ ++ long (n + 8) ++ item ++ long n ++ elements
 
--- (FFFA,FFFA) with one item of 24 bytes: its number, and (0400,0120) OB of two bytes
+-- (FFFA,FFFA) with one item of n bytes
+abbrev signatureItems : (n : ℕ) (elements : List ℕ) → List ℕ
+signatureItems n elements = 0xFA ∷ 0xFF ∷ 0xFA ∷ 0xFF ∷ SQ ++ long (n + 8) ++ item ++ long n ++ elements
+
+-- an element of group 0400, of a VR of the long form and two bytes
+abbrev twoBytes : (element high : ℕ) (vr : List ℕ) → List ℕ
+twoBytes element high vr = 0x00 ∷ 0x04 ∷ element ∷ high ∷ vr ++ long 2 ++ 0xAA ∷ 0xBB ∷ []
+
+-- its number, and (0400,0120) OB of two bytes
 abbrev signatures : (id : List ℕ) → List ℕ
-signatures id =
-    0xFA ∷ 0xFF ∷ 0xFA ∷ 0xFF ∷ SQ ++ long 32 ++ item ++ long 24 ++ id ++ 0x00 ∷ 0x04 ∷ 0x20 ∷ 0x01 ∷ OB ++ long 2 ++ 0xAA ∷ 0xBB ∷ []
+signatures id = signatureItems 24 (id ++ twoBytes 0x20 0x01 OB)
 
 abbrev US : ℕ
 US = 0x53
 
 abbrev set : List ℕ
 set = A ++ parameters 64 (macId US 1 ++ transferSyntax ++ SHA256 ++ listed) ++ signatures (macId US 1)
+
+-- (0008,0001) UL
+abbrev barredElement : List ℕ
+barredElement = 0x08 ∷ 0x00 ∷ 0x01 ∷ 0x00 ∷ 0x55 ∷ 0x4C ∷ 0x04 ∷ 0x00 ∷ 0x00 ∷ 0x00 ∷ 0x00 ∷ 0x00 ∷ []
+
+abbrev UN : List ℕ
+UN = 0x55 ∷ 0x4E ∷ 0x00 ∷ 0x00 ∷ []
+
+-- a sequence of group 0400 with one item of 14 bytes
+abbrev sequenceOf : (element high : ℕ) (elements : List ℕ) → List ℕ
+sequenceOf element high elements = 0x00 ∷ 0x04 ∷ element ∷ high ∷ SQ ++ long 22 ++ item ++ long 14 ++ elements
+
+-- the same with a signature item of 118 bytes with (0008,0001), barred; its number; (0400,0115); (0400,0401), a sequence with (0400,0120); (0400,0402), a sequence with a UN; and (0400,0403) UN
+abbrev crowded : List ℕ
+crowded =
+    A ++ parameters 64 (macId US 1 ++ transferSyntax ++ SHA256 ++ listed)
+    ++ signatureItems 118
+    (barredElement ++ macId US 1 ++ twoBytes 0x15 0x01 OB ++ sequenceOf 0x01 0x04 (twoBytes 0x20 0x01 OB) ++ sequenceOf 0x02 0x04 (twoBytes 0x20 0x01 UN) ++ twoBytes 0x03 0x04 UN)
+
+-- of which the number stays, and the sequence with (0400,0120), without lengths
+abbrev crowdedStream : List ℕ
+crowdedStream = A ++ macId US 1 ++ 0x00 ∷ 0x04 ∷ 0x01 ∷ 0x04 ∷ SQ ++ item ++ twoBytes 0x20 0x01 OB ++ sequenceDelimiter
 
 abbrev refuses : (which : Signature) (uid set : List ℕ) (number : ℕ) → Example
 refuses which uid set number = record { uid = uid; which = which; set = set; answers = refused number 0; stream = [] }
@@ -81,6 +110,7 @@ unfoldable pub examples : List Example
 examples =
     record { uid = explicitVrLittleEndian; which = signature.Unnamed; set = set; answers = accepted 20; stream = A ++ macId US 1 }
     ∷ record { uid = explicitVrLittleEndian; which = signature.Number 0; set = set; answers = accepted 20; stream = A ++ macId US 1 }
+    ∷ record { uid = explicitVrLittleEndian; which = signature.Unnamed; set = crowded; answers = accepted 50; stream = crowdedStream }
     ∷ refuses (signature.Number 1) explicitVrLittleEndian set 18
     -- UL instead of US
     ∷ refuses signature.Unnamed explicitVrLittleEndian (A ++ parameters 64 (macId US 1 ++ transferSyntax ++ SHA256 ++ listed) ++ signatures (macId 0x4C 1)) 19
