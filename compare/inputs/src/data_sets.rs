@@ -210,7 +210,14 @@ pub fn short(random: &mut Random) -> Vec<u8> {
 #[cfg(test)]
 mod tests {
     use super::*;
-    use independent::reading::read;
+    use independent::reading::{read, Tag};
+
+    #[test]
+    fn barred_tags_are_barred_and_those_beside_are_not() {
+        let is_barred = |tag: &u32| independent::tag_list::is_barred(Tag(*tag));
+        assert!(BARRED.iter().all(is_barred));
+        assert!(!BESIDE_BARRED.iter().any(is_barred));
+    }
 
     #[test]
     fn random_data_sets_are_well_formed() {
