@@ -197,6 +197,12 @@ module _ (c : Keep) (d : List ℕ) where
       let z : to + 0 ≡ to = omega arith in
       record { answers = e ∙ rw (w .answers, t, z); output = rw t }
 
+-- a value that is not kept is passed over
+passed-walk : (c : Keep) (d : List ℕ) (at tag vr start end to : ℕ) (u : Bool) (xs : List ℕ) → keeps c tag ≡ false → u ≡ eqb vr UN
+    → Walk (oneWalked (keeps c)) (oneStream (keeps c)) (read (element (value at tag vr (span start end))) end) d to (one.Element tag u false end to) xs xs
+unfolding oneWalked oneStream Leaves holdsUN if_then_else_
+passed-walk c d at tag vr start end to u xs t e = let z : to + 0 ≡ to = omega arith in record { answers = rw (t, e, z); output = rw t }
+
 module _ (d : List ℕ) (delimited : Bool) (left stop at least : ℕ) (h : ElementHeader) (g : h ≡ elementAt d delimited left stop at least) where
   pub stands-here : Stands d left stop at h
   stands-here = record { delimited = delimited; least = least; is = g }
@@ -219,3 +225,10 @@ module _ (d : List ℕ) (delimited : Bool) (left stop at least : ℕ) (h : Eleme
       → Walk (oneWalked (keeps c)) (oneStream (keeps c)) (oneAt explicit d delimited left stop at least) d to r xs xs
   one-left c b to past o r xs ys zs k t w e =
       rw one-is (left-walk c d (byHeaderAt d left stop at h) (λ x n q. kept-here c b k x n q ∙ t) to past o r xs ys zs w e)
+
+  pub one-passed : (c : Keep) (b : Bool) (to tag vr start end : ℕ) (u : Bool) (xs : List ℕ) → b ≡ keepsHeader c h → b ≡ false → h ≡ header.Value tag vr start end → u ≡ eqb vr UN
+      → Walk (oneWalked (keeps c)) (oneStream (keeps c)) (oneAt explicit d delimited left stop at least) d to (one.Element tag u false end to) xs xs
+  unfolding byHeaderAt byHeader
+  one-passed c b to tag vr start end u xs k t q e =
+      let is : oneAt explicit d delimited left stop at least ≡ read (element (value at tag vr (span start end))) end = one-is ∙ ap (byHeaderAt d left stop at) q in
+      rw is (passed-walk c d at tag vr start end to u xs (sym (ap (keepsHeader c) q) ∙ sym k ∙ t) e)

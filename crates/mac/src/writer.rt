@@ -294,9 +294,24 @@ pub(crate) fn write_one(
     if keeps_header(keep, h) {
         return write_element(d, left, stop, at, h, out, to);
     }
-    let mut nothing = [0u8; 0];
-    let one = write_element(d, left, stop, at, h, &mut nothing, 0);
-    with_offset(one, to)
+    let ElementHeader::Value {
+        tag,
+        vr,
+        start: _,
+        end,
+    } = h
+    else {
+        let mut nothing = [0u8; 0];
+        let one = write_element(d, left, stop, at, h, &mut nothing, 0);
+        return with_offset(one, to);
+    };
+    OneWritten::Element {
+        tag,
+        unknown: is_unknown(vr),
+        holds_unknown: false,
+        next: end,
+        to,
+    }
 }
 
 // Writes the elements of an item that are not barred.

@@ -107,7 +107,7 @@ write-items-claims t =
 
 abbrev write-one-claims : ℕ → write-one-lts.Claims
 write-one-claims t =
-    (header-reads.Asked, header-reads.Learnt, keeps-header-reads.Asked, keeps-header-reads.Learnt, write-element-below t, write-element.Post, with-offset-reads.Asked, with-offset-reads.Learnt)
+    (header-reads.Asked, header-reads.Learnt, keeps-header-reads.Asked, keeps-header-reads.Learnt, write-element-below t, write-element.Post, with-offset-reads.Asked, with-offset-reads.Learnt, is-unknown-reads.Asked, is-unknown-reads.Learnt)
 
 write-element-enum-known-h : (t : ℕ) → write-element-lts.Need-enum-known-h (write-element-claims t) (write-element-at t) write-element.Post
 write-element-enum-known-h t c = search needs
@@ -337,6 +337,9 @@ write-one-same-length t c = search needs
 write-one-returns : (t : ℕ) → write-one-lts.Need-returns (write-one-claims t) (write-one-at t) write-one.Post
 write-one-returns t c = search element.one-kept
 
+write-one-enum-known-h : (t : ℕ) → write-one-lts.Need-enum-known-h (write-one-claims t) (write-one-at t) write-one.Post
+write-one-enum-known-h t c = search needs
+
 write-one-slice-aggregate-write-element :
     (t : ℕ) → write-one-lts.Need-slice-aggregate-write-element (write-one-claims t) (write-one-at t) write-one.Post
 write-one-slice-aggregate-write-element t c = search needs
@@ -349,6 +352,12 @@ write-one-with-offset-requires t c κs = search needs
 
 write-one-returns-2 : (t : ℕ) → write-one-lts.Need-returns-2 (write-one-claims t) (write-one-at t) write-one.Post
 write-one-returns-2 t c = search element.one-left
+
+write-one-is-unknown-requires : (t : ℕ) → write-one-lts.Need-is-unknown-requires (write-one-claims t) (write-one-at t) write-one.Post
+write-one-is-unknown-requires t c κs = search needs
+
+write-one-returns-3 : (t : ℕ) → write-one-lts.Need-returns-3 (write-one-claims t) (write-one-at t) write-one.Post
+write-one-returns-3 t c = search element.one-passed
 
 pub +write-element+write-elements+write-items+write-one-spec : {M : Type 1} → statement M
 +write-element+write-elements+write-items+write-one-spec =
@@ -440,7 +449,10 @@ pub +write-element+write-elements+write-items+write-one-spec : {M : Type 1} → 
     (write-one-write-element-requires t)
     (write-one-same-length t)
     (write-one-returns t)
+    (write-one-enum-known-h t)
     (write-one-slice-aggregate-write-element t)
     (write-one-write-element-requires-2 t)
     (write-one-with-offset-requires t)
     (write-one-returns-2 t)
+    (write-one-is-unknown-requires t)
+    (write-one-returns-3 t)
