@@ -152,6 +152,14 @@ abbrev pub answerOf : {A : Type 0} → Reading A → Answer
 answerOf (fault f) = f
 answerOf (read a next) = answer.accepted 0
 
+-- the elements of a data set; none where it is refused
+abbrev pub treeOf : Reading Elements → Elements
+treeOf (fault f) = none
+treeOf (read es next) = es
+
+abbrev pub tree : List ℕ → Elements
+tree d = treeOf (dataSet d)
+
 -- well-formed, a term of 01 ("The stream"): "A data set is well-formed when none of the conditions 1 to 8 holds for it."
 abbrev pub WellFormed : List ℕ → Type 0
 WellFormed d = answerOf (dataSet d) ≡ answer.accepted 0

@@ -14,7 +14,7 @@ use Rattle.digest.specs.declared.message.Hashed.{Hashed}
 use Rattle.digest.specs.declared.running.Running.{Running}
 use Rattle.digest.specs.declared.running.Fed.{Fed}
 use Rattle.digest.specs.declared.running.Finished.{Finished}
-use Rattle.mac.specs.Modes.{Result, outputAfter, verdictOf}
+use Rattle.mac.specs.Result.{Result, outputAfter, verdictOf}
 use Rattle.mac.specs.declared.signature_mode.Signature.{Signature}
 use Rattle.mac.specs.declared.signature_mode.Signature.the-variants as signature
 use Rattle.mac.specs.declared.verdict.Verdict.{Verdict}

@@ -1,7 +1,7 @@
 -- The verdict of a check, place by place, with the facts of the place as premises. Assumes nothing.
 use Prim.Native.Nat.{ℕ, suc, _+_, _≤_, _<_}
 use mathlib.Core.Path.{_≡_, refl, sym, ap, _∙_}
-use mathlib.Core.Bool.{Bool, true, false, not, _&&_}
+use mathlib.Core.Bool.{Bool, true, false, _&&_}
 use mathlib.Core.List.{List, [], _∷_, _++_}
 use mathlib.Core.Option.{Option, some}
 use mathlib.Core.Option as Opt
@@ -15,12 +15,15 @@ use Rattle.answer.specs.If.{if_then_else_}
 use Rattle.digest.specs.Message.{limit, digestOf, hashing}
 use Rattle.digest.specs.Sha256.{sha256}
 use Rattle.digest.specs.declared.message.Hashed.{Hashed}
-use Rattle.mac.specs.Modes.{Result, outputAfter, sameBytes, compared, verdictOf, Streamed, CheckedAs}
-use Rattle.mac.specs.Tail.{CheckOf, IntoFor}
+use Rattle.mac.specs.Modes.{badDigestLength}
+use Rattle.mac.specs.Result.{Result, outputAfter, compared, verdictOf, Streamed, CheckedAs}
+use Rattle.mac.specs.Bytes.{sameBytes}
+use Rattle.mac.specs.Inner.Verdict.{CheckOf}
+use Rattle.mac.specs.Inner.Calls.{CallAnswered}
 use Rattle.mac.specs.declared.verdict.Verdict.{Verdict}
 use Rattle.mac.specs.declared.verdict.Verdict.the-variants as verdict
 use Rattle.mac.specs.declared.verdict.Checked.{Checked}
-use Rattle.mac.proofs.Runs.{drop-one}
+use Rattle.mac.proofs.OutputSteps.{drop-one}
 
 -- ---- the loop of `same_bytes`
 pub record SameLoop (a b : List ℕ) (i : ℕ) : Type 0 where
@@ -88,10 +91,11 @@ pub check-count : (a : Answer) (work : List ℕ) → (a .number ≡ 0 → a .len
 check-count a work h z = sym (length-take-le (a .length) work (h z))
 
 -- ---- a call in either mode
-pub into-streamed : (call : Option (List ℕ) → Result) (out after : List ℕ) (a : Answer) → IntoFor call false out a after → Streamed (call Opt.none) out a after
+pub into-streamed : (call : Option (List ℕ) → Result) (out after : List ℕ) (a : Answer) → CallAnswered call false out a after → Streamed (call Opt.none) out a after
 into-streamed call out after a s = s .streamed Opt.none refl
 
-module _ (call : Option (List ℕ) → Result) (expected work after : List ℕ) (a : Answer) (s : IntoFor call (not (eqb (length expected) 32)) work a after) where
+module _ (call : Option (List ℕ) → Result) (expected work after : List ℕ) (a : Answer) (bad : Bool) (n : bad ≡ badDigestLength (some expected))
+    (s : CallAnswered call bad work a after) where
   pub into-room : length after ≡ length work → a .number ≡ 0 → a .length ≤ length after
   into-room k h = omega (arith, s .room h)
 
@@ -99,7 +103,7 @@ module _ (call : Option (List ℕ) → Result) (expected work after : List ℕ) 
   digested : a .number ≡ 0 → take (a .length) after ≡ call (some expected) .stream
   unfolding outputAfter if_then_else_
   digested h =
-      let t = s .streamed (some expected) refl in
+      let t = s .streamed (some expected) (sym n) in
       let b = call (some expected) .stream in
       let y : after ≡ b ++ drop (length b) work = t .output ∙ rw (← t .answers, eq-eqb (a .number) 0 h) in
       rw y (take-at b (drop (length b) work) (a .length) (sym (s .long (some expected) h)))
@@ -107,13 +111,13 @@ module _ (call : Option (List ℕ) → Result) (expected work after : List ℕ) 
   pub into-checked : (r : Checked) → call (some expected) .expected ≡ some expected → CheckOf a expected after r → CheckedAs (call (some expected)) work r after
   unfolding verdictOf if_then_else_
   into-checked r e k =
-      let t = s .streamed (some expected) refl in
+      let t = s .streamed (some expected) (sym n) in
       record { answers = k .answers ∙ t .answers; says = go (eqb (a .number) 0) refl; output = t .output }
     where
       go : (b : Bool) → eqb (a .number) 0 ≡ b → r .verdict ≡ verdictOf (call (some expected))
       go true q =
           let z = eqb-true (a .number) 0 q in
           let b = call (some expected) .stream in
-          let n : length b ≤ limit = omega (arith, s .long (some expected) z, s .short z) in
-          k .says z ∙ rw (digested z, hashes b n, e, ← s .streamed (some expected) refl .answers, q)
-      go false q = k .refused (eqb-false (a .number) 0 q) ∙ rw (← s .streamed (some expected) refl .answers, q)
+          let m : length b ≤ limit = omega (arith, s .long (some expected) z, s .short z) in
+          k .says z ∙ rw (digested z, hashes b m, e, ← s .streamed (some expected) (sym n) .answers, q)
+      go false q = k .refused (eqb-false (a .number) 0 q) ∙ rw (← s .streamed (some expected) (sym n) .answers, q)

@@ -20,14 +20,15 @@ use Rattle.dataset.specs.declared.header.ElementHeader.{ElementHeader}
 use Rattle.dataset.specs.declared.header.ElementHeader.the-variants as header
 use Rattle.dataset.proofs.Bounds.{ElementFacts, element-facts}
 use Rattle.mac.specs.Stream.{streamOf, itemsStream, fragmentsStream}
-use Rattle.mac.specs.Modes.{isUN, holdsUN, itemsHoldUN}
-use Rattle.mac.specs.Writer.{keeps, keepsHeader, every, walked, noneUnknown, oneStream, oneWalked, Leaves, Walk, byHeaderAt, Stands, holdingOf, withOffset}
-use Rattle.mac.specs.declared.writer.Keep.{Keep}
+use Rattle.mac.specs.UN.{isUN, holdsUN, itemsHoldUN}
+use Rattle.mac.specs.Inner.Keep.{keeps, keepsHeader, every}
+use Rattle.mac.specs.Inner.Writer.{walked, holdsNone, oneStream, oneWalked, Leaves, Walk, byHeaderAt, HeaderAt, nestedWritten, withOffset}
+use Rattle.mac.specs.declared.keep.Keep.{Keep}
 use Rattle.mac.specs.declared.writer.Written.{Written}
 use Rattle.mac.specs.declared.writer.OneWritten.{OneWritten}
 use Rattle.mac.specs.declared.writer.OneWritten.the-variants as one
 use Rattle.mac.proofs.Slices.{length-between}
-use Rattle.mac.proofs.Runs.{sets-append}
+use Rattle.mac.proofs.OutputSteps.{sets-append}
 
 -- ---- an element that holds what the reading p gives: its header's eight bytes, and then the stream of p
 pub record Holds {A : Type 0} (unknown : A → Bool) (stream : A → List ℕ → List ℕ) (d : List ℕ) (tag : ℕ) (bytes : List ℕ) (e : Element) (a : A) : Type 0 where
@@ -39,7 +40,7 @@ pub record Holds {A : Type 0} (unknown : A → Bool) (stream : A → List ℕ �
 holding-walk : {A : Type 0} (unknown : A → Bool) (stream : A → List ℕ → List ℕ) (d : List ℕ) (tag : ℕ) (bytes : List ℕ) (p : Reading A) (k : A × ℕ → Reading One)
     (make : A → ℕ → Element) → ((a : A) (n : ℕ) → k (a, n) ≡ read (element (make a n)) n) → ((a : A) (n : ℕ) → Holds unknown stream d tag bytes (make a n) a)
     → (to past : ℕ) (xs ys zs : List ℕ) (o : Written) (z : OneWritten) → past ≡ to + length bytes → ys ≡ sets xs to bytes
-    → Walk (walked unknown stream) stream p d past o ys zs → z ≡ holdingOf tag o → Walk (oneWalked every) (oneStream every) (p >>= k) d to z xs zs
+    → Walk (walked unknown stream) stream p d past o ys zs → z ≡ nestedWritten tag o → Walk (oneWalked every) (oneStream every) (p >>= k) d to z xs zs
 unfolding walked oneWalked oneStream every Leaves if_then_else_
 holding-walk unknown stream d tag bytes (fault f) k make m h to past xs ys zs o z t y w e = record { answers = e ∙ rw (w .answers); output = tt }
 holding-walk unknown stream d tag bytes (read a n) k make m h to past xs ys zs o z t y w e =
@@ -65,7 +66,7 @@ module _ (d : List ℕ) (left stop at : ℕ) (h : ElementHeader) where
   unfolding byHeader oneWalked oneStream Leaves
   element-end to next xs q = rw (by (header.End next) q) record { answers = refl; output = refl }
 
-  module _ (s : Stands d left stop at h) where
+  module _ (s : HeaderAt d left stop at h) where
     facts : (p : ElementHeader) → h ≡ p → ElementFacts d (s .delimited) left stop at (s .least) p
     facts p q = rw (sym (s .is) ∙ q) at (element-facts d (s .delimited) left stop at (s .least))
 
@@ -79,10 +80,10 @@ module _ (d : List ℕ) (left stop at : ℕ) (h : ElementHeader) where
       pub value-fits : (to : ℕ) → to ≤ at + length d → stop ≤ length d → length d * 1 < 2 ^ 63 → Fits w64 (to + (end - at))
       value-fits to b l m = record { fits = omega (arith, value-order, value-inside (length d) l) }
 
-      pub element-value : (to : ℕ) (u : Bool) (xs ys : List ℕ) → stop ≤ length d → u ≡ eqb vr UN → ys ≡ sets xs to (between d at end)
-          → Walk (oneWalked every) (oneStream every) (byHeaderAt d left stop at h) d to (one.Element tag u false end (to + (end - at))) xs ys
+      pub element-value : (to : ℕ) (z : OneWritten) (xs ys : List ℕ) → stop ≤ length d → z ≡ one.Element tag (eqb vr UN) false end (to + (end - at))
+          → ys ≡ sets xs to (between d at end) → Walk (oneWalked every) (oneStream every) (byHeaderAt d left stop at h) d to z xs ys
       unfolding byHeader oneWalked oneStream every Leaves streamOf holdsUN if_then_else_
-      element-value to u xs ys l g y =
+      element-value to z xs ys l g y =
           let n = length-between d at end value-order (value-inside (length d) l) in
           rw (by (header.Value tag vr start end) q, g) record { answers = rw n; output = y }
 
@@ -112,7 +113,7 @@ module _ (d : List ℕ) (left stop at : ℕ) (h : ElementHeader) where
       sequence-to-fits to b m = record { fits = omega (arith, sequence-header) }
 
       pub element-sequence : (to : ℕ) (xs ys zs : List ℕ) (o : Written) (z : OneWritten) → ys ≡ sets xs to (between d at (at + 8))
-          → Walk (walked itemsHoldUN itemsStream) itemsStream (itemsAt explicit d inner left end start) d (to + 8) o ys zs → z ≡ holdingOf tag o
+          → Walk (walked itemsHoldUN itemsStream) itemsStream (itemsAt explicit d inner left end start) d (to + 8) o ys zs → z ≡ nestedWritten tag o
           → Walk (oneWalked every) (oneStream every) (byHeaderAt d left stop at h) d to z xs zs
       unfolding byHeader streamOf holdsUN
       element-sequence to xs ys zs o z y w e =
@@ -142,13 +143,13 @@ module _ (d : List ℕ) (left stop at : ℕ) (h : ElementHeader) where
       parts-to-fits to b m = record { fits = omega (arith, parts-header) }
 
       pub element-fragments : (to : ℕ) (xs ys zs : List ℕ) (o : Written) (z : OneWritten) → ys ≡ sets xs to (between d at (at + 8))
-          → Walk (walked noneUnknown fragmentsStream) fragmentsStream (fragmentsAt explicit d left stop start) d (to + 8) o ys zs → z ≡ holdingOf tag o
+          → Walk (walked holdsNone fragmentsStream) fragmentsStream (fragmentsAt explicit d left stop start) d (to + 8) o ys zs → z ≡ nestedWritten tag o
           → Walk (oneWalked every) (oneStream every) (byHeaderAt d left stop at h) d to z xs zs
-      unfolding byHeader streamOf holdsUN noneUnknown
+      unfolding byHeader streamOf holdsUN holdsNone
       element-fragments to xs ys zs o z y w e =
           let n : length (between d at (at + 8)) ≡ 8 = length-between d at (at + 8) (omega arith) parts-header ∙ omega arith in
           rw (by (header.Fragments tag start) q)
-          (holding-walk noneUnknown fragmentsStream d tag (between d at (at + 8)) (fragmentsAt explicit d left stop start) _ (λ ss m. fragments at tag (span start (m - 8)) ss)
+          (holding-walk holdsNone fragmentsStream d tag (between d at (at + 8)) (fragmentsAt explicit d left stop start) _ (λ ss m. fragments at tag (span start (m - 8)) ss)
           (λ ss m. refl) (λ ss m. record { tagged = refl; known = refl; holds = refl; streams = refl })
           to (to + 8) xs ys zs o z (rw n) y w e)
 
@@ -198,13 +199,14 @@ module _ (c : Keep) (d : List ℕ) where
       record { answers = e ∙ rw (w .answers, t, z); output = rw t }
 
 -- a value that is not kept is passed over
-passed-walk : (c : Keep) (d : List ℕ) (at tag vr start end to : ℕ) (u : Bool) (xs : List ℕ) → keeps c tag ≡ false → u ≡ eqb vr UN
-    → Walk (oneWalked (keeps c)) (oneStream (keeps c)) (read (element (value at tag vr (span start end))) end) d to (one.Element tag u false end to) xs xs
+passed-walk : (c : Keep) (d : List ℕ) (at tag vr start end to : ℕ) (r : OneWritten) (xs : List ℕ) → keeps c tag ≡ false
+    → r ≡ one.Element tag (eqb vr UN) false end to
+    → Walk (oneWalked (keeps c)) (oneStream (keeps c)) (read (element (value at tag vr (span start end))) end) d to r xs xs
 unfolding oneWalked oneStream Leaves holdsUN if_then_else_
-passed-walk c d at tag vr start end to u xs t e = let z : to + 0 ≡ to = omega arith in record { answers = rw (t, e, z); output = rw t }
+passed-walk c d at tag vr start end to r xs t e = let z : to + 0 ≡ to = omega arith in record { answers = rw (t, e, z); output = rw t }
 
 module _ (d : List ℕ) (delimited : Bool) (left stop at least : ℕ) (h : ElementHeader) (g : h ≡ elementAt d delimited left stop at least) where
-  pub stands-here : Stands d left stop at h
+  pub stands-here : HeaderAt d left stop at h
   stands-here = record { delimited = delimited; least = least; is = g }
 
   one-is : oneAt explicit d delimited left stop at least ≡ byHeaderAt d left stop at h
@@ -226,9 +228,9 @@ module _ (d : List ℕ) (delimited : Bool) (left stop at least : ℕ) (h : Eleme
   one-left c b to past o r xs ys zs k t w e =
       rw one-is (left-walk c d (byHeaderAt d left stop at h) (λ x n q. kept-here c b k x n q ∙ t) to past o r xs ys zs w e)
 
-  pub one-passed : (c : Keep) (b : Bool) (to tag vr start end : ℕ) (u : Bool) (xs : List ℕ) → b ≡ keepsHeader c h → b ≡ false → h ≡ header.Value tag vr start end → u ≡ eqb vr UN
-      → Walk (oneWalked (keeps c)) (oneStream (keeps c)) (oneAt explicit d delimited left stop at least) d to (one.Element tag u false end to) xs xs
+  pub one-passed : (c : Keep) (b : Bool) (to tag vr start end : ℕ) (z : OneWritten) (xs : List ℕ) → b ≡ keepsHeader c h → b ≡ false → h ≡ header.Value tag vr start end
+      → z ≡ one.Element tag (eqb vr UN) false end to → Walk (oneWalked (keeps c)) (oneStream (keeps c)) (oneAt explicit d delimited left stop at least) d to z xs xs
   unfolding byHeaderAt byHeader
-  one-passed c b to tag vr start end u xs k t q e =
+  one-passed c b to tag vr start end z xs k t q e =
       let is : oneAt explicit d delimited left stop at least ≡ read (element (value at tag vr (span start end))) end = one-is ∙ ap (byHeaderAt d left stop at) q in
-      rw is (passed-walk c d at tag vr start end to u xs (sym (ap (keepsHeader c) q) ∙ sym k ∙ t) e)
+      rw is (passed-walk c d at tag vr start end to z xs (sym (ap (keepsHeader c) q) ∙ sym k ∙ t) e)

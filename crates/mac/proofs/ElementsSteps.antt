@@ -9,11 +9,12 @@ use Rattle.answer.specs.declared.Answer.{Answer}
 use Rattle.answer.specs.If.{if_then_else_}
 use Rattle.dataset.specs.Tree.{Element, none, and, tagOf}
 use Rattle.dataset.specs.Reading.{element, explicit, byOne, elementsAt, oneAt}
-use Rattle.mac.specs.TagList.{barred}
-use Rattle.mac.specs.Stream.{unlessBarred, streamOf, elementsStream}
-use Rattle.mac.specs.Modes.{isUN, holdsUN, elementsHoldUN}
-use Rattle.mac.specs.Writer.{keeps, walked, oneStream, oneWalked, Walk}
-use Rattle.mac.specs.declared.writer.Keep.the-variants as keep
+use Rattle.mac.specs.TagList.{barred, unlessBarred}
+use Rattle.mac.specs.Stream.{streamOf, elementsStream}
+use Rattle.mac.specs.UN.{isUN, holdsUN, elementsHoldUN}
+use Rattle.mac.specs.Inner.Keep.{keeps}
+use Rattle.mac.specs.Inner.Writer.{walked, oneStream, oneWalked, Walk}
+use Rattle.mac.specs.declared.keep.Keep.the-variants as keep
 use Rattle.mac.specs.declared.writer.Written.the-variants as written
 use Rattle.mac.specs.declared.writer.OneWritten.{OneWritten}
 use Rattle.mac.specs.declared.writer.OneWritten.the-variants as one
@@ -34,13 +35,13 @@ element-front : (d : List ℕ) (e : Element) → Front elementsHoldUN elementsSt
 unfolding elementsStream elementsHoldUN oneStream if_then_else_
 element-front d e = record { streams = λ es. go (barred (tagOf e)) (elementsStream es d); finds = λ es. sym (or-assoc (isUN e) (holdsUN e) (elementsHoldUN es)) }
   where
-    go : (b : Bool) (rest : List ℕ) → unlessBarred b (streamOf e d) rest ≡ (if not b then streamOf e d else []) ++ rest
+    go : (b : Bool) (rest : List ℕ) → unlessBarred b (λ more. streamOf e d ++ more) rest ≡ (if not b then streamOf e d else []) ++ rest
     go true rest = refl
     go false rest = refl
 
-found-front : (d : List ℕ) (e : Element) (unknown holds u : Bool) → isUN e ≡ unknown → holdsUN e ≡ holds → u ≡ (unknown || holds)
-    → Front elementsHoldUN elementsStream d (and e) (oneStream (keeps keep.Unbarred) (element e) d) u
-found-front d e unknown holds u p q a = rw (a, ← p, ← q) (element-front d e)
+found-front : (d : List ℕ) (e : Element) (unknown holds : Bool) → isUN e ≡ unknown → holdsUN e ≡ holds
+    → Front elementsHoldUN elementsStream d (and e) (oneStream (keeps keep.Unbarred) (element e) d) (unknown || holds)
+found-front d e unknown holds p q = rw (← p, ← q) (element-front d e)
 
 -- r is what the walk answers in an element's place, and ys what it leaves
 module _ (d : List ℕ) (delimited : Bool) (left stop from : ℕ) (xs₀ : List ℕ) (to₀ : ℕ) (xs : List ℕ) (at least : ℕ) (found : Bool) (to : ℕ) (r : OneWritten) (ys : List ℕ)
@@ -66,17 +67,17 @@ module _ (d : List ℕ) (delimited : Bool) (left stop from : ℕ) (xs₀ : List 
         let k = walk.one-lies (keeps keep.Unbarred) d delimited left stop at least to r xs ys (i .inside) w tag unknown holds next past q l in
         omega (arith, k .past, k .inside)
 
-    pub elements-again : (u found′ : Bool) → u ≡ (unknown || holds) → found′ ≡ (found || u) → ElementsLoop d delimited left stop from xs₀ to₀ ys next (tag + 1) found′ past
-    elements-again u found′ a b =
+    pub elements-again : ElementsLoop d delimited left stop from xs₀ to₀ ys next (tag + 1) (found || (unknown || holds)) past
+    elements-again =
         let e = walk.one-found (keeps keep.Unbarred) d delimited left stop at least to r xs ys (i .inside) w tag unknown holds next past q in
         let k = walk.one-lies (keeps keep.Unbarred) d delimited left stop at least to r xs ys (i .inside) w tag unknown holds next past q l in
         let z = walk.one-below (keeps keep.Unbarred) d delimited left stop at least to r xs ys (i .inside) w tag unknown holds next past q l in
         record {
           inside = k .inside;
           below = omega (arith, z, i .below, k .past);
-          going = rw b
+          going =
               (go-on elementsHoldUN elementsStream d (elementsAt explicit d delimited left stop from 0) to₀ xs₀ (elementsAt explicit d delimited left stop at least) found to xs (i .going)
-              (and (e .what)) (oneStream (keeps keep.Unbarred) (element (e .what)) d) u (found-front d (e .what) unknown holds u (e .unknowns) (e .holding) a)
+              (and (e .what)) (oneStream (keeps keep.Unbarred) (element (e .what)) d) (unknown || holds) (found-front d (e .what) unknown holds (e .unknowns) (e .holding))
               (elementsAt explicit d delimited left stop next (tag + 1)) _ (λ es n. refl)
               (walk.one-next (keeps keep.Unbarred) d delimited left stop at least to r xs ys (i .inside) w tag unknown holds next past q) past ys (e .passes)
               (walk.one-output (keeps keep.Unbarred) d delimited left stop at least to r xs ys (i .inside) w tag unknown holds next past q));

@@ -18,29 +18,29 @@ use Rattle.dataset.specs.declared.header.ItemHeader.the-variants as place
 use Rattle.dataset.proofs.Bounds.{ItemFacts, item-facts}
 use Rattle.dataset.proofs.Bounded.{explicit-bounded}
 use Rattle.dataset.proofs.Unfolding.{fragments-are}
-use Rattle.mac.specs.Stream.{itemMark, endMark, fragmentsStream}
-use Rattle.mac.specs.Writer.{walked, noneUnknown, Walk}
+use Rattle.mac.specs.Stream.{itemTagBytes, sequenceDelimiterBytes, fragmentsStream}
+use Rattle.mac.specs.Inner.Writer.{walked, holdsNone, Walk}
 use Rattle.mac.specs.declared.writer.Written.the-variants as written
 use Rattle.mac.proofs.Slices.{length-between}
-use Rattle.mac.proofs.Runs.{two-runs}
+use Rattle.mac.proofs.OutputSteps.{two-runs}
 use Rattle.mac.proofs.Walks.{Front, Going, start, go-on, stop-at, done}
 
 -- an item tag and the bytes of a fragment
-pub fragment-run : (d out ys zs : List ℕ) (to start end : ℕ) → ys ≡ sets out to itemMark → zs ≡ sets ys (to + 4) (between d start end)
-    → zs ≡ sets out to (itemMark ++ between d start end)
-fragment-run d out ys zs to start end y z = two-runs out itemMark (between d start end) to 4 ys zs refl y z
+pub fragment-run : (d out ys zs : List ℕ) (to start end : ℕ) → ys ≡ sets out to itemTagBytes → zs ≡ sets ys (to + 4) (between d start end)
+    → zs ≡ sets out to (itemTagBytes ++ between d start end)
+fragment-run d out ys zs to start end y z = two-runs out itemTagBytes (between d start end) to 4 ys zs refl y z
 
 pub record FragmentsLoop (d : List ℕ) (left stop from : ℕ) (xs₀ : List ℕ) (to₀ : ℕ) (xs : List ℕ) (at to : ℕ) : Type 0 where
   pub inside : at ≤ stop
   pub below : to + 4 ≤ at + length d
-  pub going : Going noneUnknown fragmentsStream d (fragmentsAt explicit d left stop from) to₀ xs₀ (fragmentsAt explicit d left stop at) false to xs
+  pub going : Going holdsNone fragmentsStream d (fragmentsAt explicit d left stop from) to₀ xs₀ (fragmentsAt explicit d left stop at) false to xs
 
 pub fragments-start : (d : List ℕ) (left stop from : ℕ) (xs : List ℕ) (to : ℕ) → to + 4 ≤ from + length d → from ≤ stop → FragmentsLoop d left stop from xs to xs from to
 fragments-start d left stop from xs to h k =
-    record { inside = k; below = h; going = start noneUnknown fragmentsStream d (fragmentsAt explicit d left stop from) to xs }
+    record { inside = k; below = h; going = start holdsNone fragmentsStream d (fragmentsAt explicit d left stop from) to xs }
 
-fragment-front : (d : List ℕ) (s : Span) → Front noneUnknown fragmentsStream d (λ ss. s ∷ ss) (itemMark ++ between d (s .start) (s .end)) false
-unfolding noneUnknown fragmentsStream
+fragment-front : (d : List ℕ) (s : Span) → Front holdsNone fragmentsStream d (λ ss. s ∷ ss) (itemTagBytes ++ between d (s .start) (s .end)) false
+unfolding holdsNone fragmentsStream
 fragment-front d s = record { streams = λ ss. refl; finds = λ ss. refl }
 
 -- r is what stands at `at`
@@ -53,17 +53,17 @@ module _ (d : List ℕ) (left stop from : ℕ) (xs₀ : List ℕ) (to₀ : ℕ) 
   fragments-at p q = rw (fragments-are explicit explicit-bounded d left stop at (i .inside), sym e ∙ q)
 
   pub fragments-refused : (number : ℕ) (f : Answer) (ys : List ℕ) → r ≡ place.Refused number → f ≡ refusal at number
-      → Walk (walked noneUnknown fragmentsStream) fragmentsStream (fragmentsAt explicit d left stop from) d to₀ (written.Refused f) xs₀ ys
+      → Walk (walked holdsNone fragmentsStream) fragmentsStream (fragmentsAt explicit d left stop from) d to₀ (written.Refused f) xs₀ ys
   unfolding byFragment
   fragments-refused number f ys q g =
-      stop-at noneUnknown fragmentsStream d (fragmentsAt explicit d left stop from) to₀ xs₀ (fragmentsAt explicit d left stop at) false to xs (i .going) f ys
+      stop-at holdsNone fragmentsStream d (fragmentsAt explicit d left stop from) to₀ xs₀ (fragmentsAt explicit d left stop at) false to xs (i .going) f ys
       (fragments-at (place.Refused number) q ∙ ap fault (sym g))
 
-  pub fragments-end : (next : ℕ) (ys : List ℕ) → r ≡ place.End next → ys ≡ sets xs to endMark
-      → Walk (walked noneUnknown fragmentsStream) fragmentsStream (fragmentsAt explicit d left stop from) d to₀ (written.Past false next (to + 4)) xs₀ ys
-  unfolding byFragment fragmentsStream noneUnknown
+  pub fragments-end : (next : ℕ) (ys : List ℕ) → r ≡ place.End next → ys ≡ sets xs to sequenceDelimiterBytes
+      → Walk (walked holdsNone fragmentsStream) fragmentsStream (fragmentsAt explicit d left stop from) d to₀ (written.Past false next (to + 4)) xs₀ ys
+  unfolding byFragment fragmentsStream holdsNone
   fragments-end next ys q y =
-      done noneUnknown fragmentsStream d (fragmentsAt explicit d left stop from) to₀ xs₀ (fragmentsAt explicit d left stop at) false to xs (i .going) [] next (to + 4) ys
+      done holdsNone fragmentsStream d (fragmentsAt explicit d left stop from) to₀ xs₀ (fragmentsAt explicit d left stop at) false to xs (i .going) [] next (to + 4) ys
       (fragments-at (place.End next) q) refl refl y
 
   module _ (start end : ℕ) (inner : Bool) (q : r ≡ place.Item start end inner) where
@@ -85,7 +85,7 @@ module _ (d : List ℕ) (left stop from : ℕ) (xs₀ : List ℕ) (to₀ : ℕ) 
     pub fragment-fits : stop ≤ length d → length d * 1 < 2 ^ 63 → Fits w64 (to + 4 + (end - start))
     fragment-fits l b = let k = here (place.Item start end inner) q .0 in record { fits = omega (arith, fragment-below, k .inside) }
 
-    pub fragment-again : (ys : List ℕ) → stop ≤ length d → ys ≡ sets xs to (itemMark ++ between d start end)
+    pub fragment-again : (ys : List ℕ) → stop ≤ length d → ys ≡ sets xs to (itemTagBytes ++ between d start end)
         → FragmentsLoop d left stop from xs₀ to₀ ys end (to + 4 + (end - start))
     unfolding byFragment
     fragment-again ys l y =
@@ -94,7 +94,7 @@ module _ (d : List ℕ) (left stop from : ℕ) (xs₀ : List ℕ) (to₀ : ℕ) 
         record {
           inside = k .inside;
           below = fragment-below;
-          going = go-on noneUnknown fragmentsStream d (fragmentsAt explicit d left stop from) to₀ xs₀ (fragmentsAt explicit d left stop at) false to xs (i .going)
-              (λ ss. span start end ∷ ss) (itemMark ++ between d start end) false (fragment-front d (span start end)) (fragmentsAt explicit d left stop end) _
+          going = go-on holdsNone fragmentsStream d (fragmentsAt explicit d left stop from) to₀ xs₀ (fragmentsAt explicit d left stop at) false to xs (i .going)
+              (λ ss. span start end ∷ ss) (itemTagBytes ++ between d start end) false (fragment-front d (span start end)) (fragmentsAt explicit d left stop end) _
               (λ ss m. refl) (fragments-at (place.Item start end inner) q) (to + 4 + (end - start)) ys (omega (arith, n)) y;
         }

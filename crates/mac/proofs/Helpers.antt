@@ -7,9 +7,10 @@ use Rattle.answer.specs.declared.Answer.{Answer}
 use Rattle.dataset.specs.declared.header.ElementHeader.{ElementHeader}
 use Rattle.dataset.specs.declared.header.ElementHeader.the-variants as header
 use Rattle.mac.specs.TagList.{barred}
-use Rattle.mac.specs.Writer.{keeps, keepsHeader, holdingOf, withOffset}
-use Rattle.mac.specs.declared.writer.Keep.{Keep}
-use Rattle.mac.specs.declared.writer.Keep.the-variants as keep
+use Rattle.mac.specs.Inner.Keep.{keeps, keepsHeader}
+use Rattle.mac.specs.Inner.Writer.{nestedWritten, withOffset}
+use Rattle.mac.specs.declared.keep.Keep.{Keep}
+use Rattle.mac.specs.declared.keep.Keep.the-variants as keep
 use Rattle.mac.specs.declared.writer.Written.{Written}
 use Rattle.mac.specs.declared.writer.Written.the-variants as written
 use Rattle.mac.specs.declared.writer.OneWritten.{OneWritten}
@@ -31,10 +32,10 @@ module _ (k : Keep) (h : ElementHeader) (tag : ℕ) (b : Bool) (q : b ≡ keeps 
   pub fragments-kept : (start : ℕ) → h ≡ header.Fragments tag start → b ≡ keepsHeader k h
   fragments-kept start e = rw e q
 
-pub holding-refused : (tag : ℕ) (o : Written) (f : Answer) → o ≡ written.Refused f → one.Refused f ≡ holdingOf tag o
+pub holding-refused : (tag : ℕ) (o : Written) (f : Answer) → o ≡ written.Refused f → one.Refused f ≡ nestedWritten tag o
 holding-refused tag o f e = rw e
 
-pub holding-past : (tag : ℕ) (o : Written) (unknown : Bool) (next to : ℕ) → o ≡ written.Past unknown next to → one.Element tag false unknown next to ≡ holdingOf tag o
+pub holding-past : (tag : ℕ) (o : Written) (unknown : Bool) (next to : ℕ) → o ≡ written.Past unknown next to → one.Element tag false unknown next to ≡ nestedWritten tag o
 holding-past tag o unknown next to e = rw e
 
 pub offset-refused : (o : OneWritten) (to : ℕ) (f : Answer) → o ≡ one.Refused f → one.Refused f ≡ withOffset o to

@@ -1,15 +1,12 @@
 -- What one turn of the loop of `write_items` does, with the facts of the place as premises. Assumes nothing.
-use Prim.Native.Nat.{ℕ, _+_, _-_, _^_, _≤_, _<_}
-use mir.Syntax.{w64}
-use mir.Val.{Fits}
+use Prim.Native.Nat.{ℕ, _+_, _-_, _≤_, _<_}
 use mathlib.Core.Path.{_≡_, refl, sym, ap, _∙_, subst}
 use mathlib.Core.Bool.{Bool, true, false, _||_, true≢false}
 use mathlib.Core.List.{List, _++_, append-assoc}
 use native.Mathlib.Omega.{arith}
-use lib.ListN.{length, length-append}
+use lib.ListN.{length}
 use lib.Seq.{sets}
 use Rattle.answer.specs.declared.Answer.{Answer}
-use Rattle.dataset.specs.Bytes.{between}
 use Rattle.dataset.specs.Header.{itemAt}
 use Rattle.dataset.specs.Tree.{Elements, last, item}
 use Rattle.dataset.specs.Reading.{Reading, fault, read, _>>=_, explicit, refusal, byItem, elementsAt, itemsAt}
@@ -19,13 +16,12 @@ use Rattle.dataset.proofs.Bounds.{ItemFacts, item-facts}
 use Rattle.dataset.proofs.Bounded.{explicit-bounded}
 use Rattle.dataset.proofs.Unfolding.{items-are}
 use Rattle.dataset.proofs.Guarantees.{holds-read, ElementsIn, elements-read}
-use Rattle.mac.specs.Stream.{endMark, elementsStream, itemsStream}
-use Rattle.mac.specs.Modes.{elementsHoldUN, itemsHoldUN}
-use Rattle.mac.specs.Writer.{walked, Leaves, Walk}
+use Rattle.mac.specs.Stream.{itemTagBytes, sequenceDelimiterBytes, elementsStream, itemsStream}
+use Rattle.mac.specs.UN.{elementsHoldUN, itemsHoldUN}
+use Rattle.mac.specs.Inner.Writer.{walked, Leaves, Walk}
 use Rattle.mac.specs.declared.writer.Written.{Written}
 use Rattle.mac.specs.declared.writer.Written.the-variants as written
-use Rattle.mac.proofs.Slices.{length-between}
-use Rattle.mac.proofs.Runs.{two-runs}
+use Rattle.mac.proofs.OutputSteps.{two-runs}
 use Rattle.mac.proofs.StreamLength.{elements-length}
 use Rattle.mac.proofs.Walks.{Front, Going, start, go-on, stop-at, done}
 
@@ -40,9 +36,9 @@ items-start d delimited left stop from xs to h k =
     record { inside = k; below = h; going = start itemsHoldUN itemsStream d (itemsAt explicit d delimited left stop from) to xs }
 
 item-front : (d : List ℕ) (at : ℕ) (es : Elements) (unknown : Bool) → elementsHoldUN es ≡ unknown
-    → Front itemsHoldUN itemsStream d (item at es) (between d at (at + 4) ++ elementsStream es d) unknown
+    → Front itemsHoldUN itemsStream d (item at es) (itemTagBytes ++ elementsStream es d) unknown
 unfolding itemsStream itemsHoldUN
-item-front d at es unknown e = record { streams = λ is. sym (append-assoc (between d at (at + 4)) (elementsStream es d) (itemsStream is d)); finds = λ is. rw e }
+item-front d at es unknown e = record { streams = λ is. sym (append-assoc itemTagBytes (elementsStream es d) (itemsStream is d)); finds = λ is. rw e }
 
 -- ---- what the walk over an item's elements answers, and what it says of the reading
 is-fault : (p : Reading Elements) (d : List ℕ) (to : ℕ) (f : Answer) → walked elementsHoldUN elementsStream p d to ≡ written.Refused f → p ≡ fault f
@@ -79,7 +75,7 @@ module _ (d : List ℕ) (delimited : Bool) (left stop from : ℕ) (xs₀ : List 
       stop-at itemsHoldUN itemsStream d (itemsAt explicit d delimited left stop from) to₀ xs₀ (itemsAt explicit d delimited left stop at) found to xs (i .going) f ys
       (items-at (place.Refused number) q ∙ ap fault (sym g))
 
-  pub items-end : (next : ℕ) (ys : List ℕ) → r ≡ place.End next → ys ≡ sets xs to endMark
+  pub items-end : (next : ℕ) (ys : List ℕ) → r ≡ place.End next → ys ≡ sets xs to sequenceDelimiterBytes
       → Walk (walked itemsHoldUN itemsStream) itemsStream (itemsAt explicit d delimited left stop from) d to₀ (written.Past found next (to + 4)) xs₀ ys
   unfolding byItem itemsStream itemsHoldUN
   items-end next ys q y =
@@ -95,12 +91,6 @@ module _ (d : List ℕ) (delimited : Bool) (left stop from : ℕ) (xs₀ : List 
 
     pub item-room : to + 4 ≤ start + length d
     item-room = omega (arith, here (place.Item start end inner) q .0 .starts, i .below)
-
-    pub item-header : (n : ℕ) → stop ≤ n → at + 4 ≤ n
-    item-header n l = let k = here (place.Item start end inner) q .0 in omega (arith, k .starts, k .order, k .inside)
-
-    pub item-fits : (n : ℕ) → stop ≤ n → n < 2 ^ 64 → Fits w64 (at + 4)
-    item-fits n l m = record { fits = omega (arith, item-header n l) }
 
     -- o is what the walk over the item's elements answers, and zs what it leaves
     module _ (l : stop ≤ length d) (ys zs : List ℕ) (o : Written)
@@ -134,21 +124,18 @@ module _ (d : List ℕ) (delimited : Bool) (left stop from : ℕ) (xs₀ : List 
         unfolding Leaves
         elements-output = subst (λ (p : Reading Elements). Leaves elementsStream p d (to + 4) ys zs) (elements-found .is) (w .output)
 
-        pub item-again : (found′ : Bool) → ys ≡ sets xs to (between d at (at + 4)) → found′ ≡ (found || unknown)
-            → ItemsLoop d delimited left stop from xs₀ to₀ zs next found′ past
-        item-again found′ y b =
+        pub item-again : ys ≡ sets xs to itemTagBytes → ItemsLoop d delimited left stop from xs₀ to₀ zs next (found || unknown) past
+        item-again y =
             let k = here (place.Item start end inner) q .0 in
             let f = elements-found in
             let m = elements-length (f .what) d (left - 1) 0 start next (elements-lie .tree) in
-            let n : length (between d at (at + 4)) ≡ 4 = length-between d at (at + 4) (omega arith) (item-header (length d) l) ∙ omega arith in
-            let t : to + length (between d at (at + 4) ++ elementsStream (f .what) d) ≡ to + 4 + length (elementsStream (f .what) d) =
-            rw (length-append (between d at (at + 4)) (elementsStream (f .what) d), n) (omega arith) in
+            let t : to + length (itemTagBytes ++ elementsStream (f .what) d) ≡ to + 4 + length (elementsStream (f .what) d) = omega arith in
             record {
               inside = omega (arith, elements-lie .inside, k .inside);
               below = omega (arith, k .starts, i .below, f .passes, m, elements-lie .order);
-              going = rw b
+              going =
                   (go-on itemsHoldUN itemsStream d (itemsAt explicit d delimited left stop from) to₀ xs₀ (itemsAt explicit d delimited left stop at) found to xs (i .going)
-                  (item at (f .what)) (between d at (at + 4) ++ elementsStream (f .what) d) unknown (item-front d at (f .what) unknown (f .holding))
+                  (item at (f .what)) (itemTagBytes ++ elementsStream (f .what) d) unknown (item-front d at (f .what) unknown (f .holding))
                   (itemsAt explicit d delimited left stop next) _ (λ is j. refl) item-next past zs (f .passes ∙ sym t)
-                  (two-runs xs (between d at (at + 4)) (elementsStream (f .what) d) to 4 ys zs n y elements-output));
+                  (two-runs xs itemTagBytes (elementsStream (f .what) d) to 4 ys zs refl y elements-output));
             }

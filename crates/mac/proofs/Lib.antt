@@ -1,9 +1,9 @@
 pub mod Either
 pub mod Slices
-pub mod Runs
-pub mod UnknownVr
+pub mod OutputSteps
+pub mod UN
 pub mod ListedElements
-pub mod TailAnswers
+pub mod From13Answers
 pub mod StreamLength
 pub mod OwnContent
 pub mod SignatureAnswers
@@ -20,10 +20,10 @@ pub mod MergeSteps
 pub mod Finding
 pub mod Merge
 pub mod ListSteps
-pub mod AllSteps
-pub mod TailSteps
+pub mod StreamWalkSteps
+pub mod From13Steps
 pub mod CheckSteps
-pub mod IntoSteps
+pub mod CallSteps
 pub mod ListModeSteps
 pub mod SignatureSteps
 pub mod SelectPlaces
@@ -31,4 +31,4 @@ pub mod SelectionTests
 pub mod SelectSteps
 pub mod Places
 pub mod SeekSteps
-pub mod ChooseSteps
+pub mod FindItemSteps

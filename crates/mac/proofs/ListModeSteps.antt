@@ -1,9 +1,9 @@
 -- What list mode answers and leaves, place by place, with the facts of the place as premises. Assumes nothing.
 use Prim.Native.Nat.{ℕ, _≤_, _<_}
 use mathlib.Core.Path.{_≡_, refl, sym, ap, ap₂, _∙_, subst}
-use mathlib.Core.Bool.{Bool, true, false, not}
+use mathlib.Core.Bool.{Bool, true, false}
 use mathlib.Core.List.{List, append-nil}
-use mathlib.Core.Option.{Option}
+use mathlib.Core.Option.{Option, some}
 use native.Mathlib.Omega.{arith}
 use lib.Dec.{eqb}
 use lib.ListN.{length}
@@ -13,25 +13,28 @@ use Rattle.answer.specs.If.{if_then_else_}
 use Rattle.answer.specs.Answer.{accepted, refused, _orElse_}
 use Rattle.answer.proofs.Chain.{or-else-first, or-else-second}
 use Rattle.dataset.specs.Tree.{Elements}
-use Rattle.dataset.specs.Reading.{Reading, fault, read, sizeLimit, dataSet, answerOf}
+use Rattle.dataset.specs.Reading.{Reading, fault, read, sizeLimit, dataSet, answerOf, treeOf, tree}
 use Rattle.dataset.proofs.Steps.{data-set-is}
 use Rattle.dataset.proofs.Theorems.{faults-inside}
 use Rattle.mac.specs.TagList.{tagsIn, listAnswer}
 use Rattle.mac.specs.Content.{content}
 use Rattle.mac.specs.Stream.{listedStream}
-use Rattle.mac.specs.Modes.{treeOf, tree, tagsAnswer, met, tail, Result, Streamed, CheckedAs}
+use Rattle.mac.specs.Modes.{tagsAnswer, answerFrom13, badDigestLength}
+use Rattle.mac.specs.UN.{contentWritesUN}
+use Rattle.mac.specs.Result.{Result, Streamed, CheckedAs}
 use Rattle.mac.specs.ListMode.{contentOf, stream, answer, result, streamCall, checkCall}
-use Rattle.mac.specs.Extents.{elementsIn, wholeOf}
-use Rattle.mac.specs.Tail.{allStream, TailFor, StreamFor, listCall, IntoFor, CheckOf}
+use Rattle.mac.specs.Inner.Extent.{elementsIn, wholeOf}
+use Rattle.mac.specs.Inner.Calls.{wholeStream, AnsweredFrom13, AnsweredFrom10, listCall, CallAnswered}
+use Rattle.mac.specs.Inner.Verdict.{CheckOf}
 use Rattle.mac.specs.declared.extent.Extent.{Extent}
-use Rattle.mac.specs.declared.modes.After.the-variants as after
+use Rattle.mac.specs.declared.modes.SignatureItem.the-variants as signatureItem
 use Rattle.mac.proofs.ListedElements.{never-met}
 use Rattle.mac.specs.declared.verdict.Checked.{Checked}
-use Rattle.mac.proofs.IntoSteps.{into-refused, into-fault, into-read}
+use Rattle.mac.proofs.CallSteps.{into-refused, into-fault, into-read}
 use Rattle.mac.proofs.CheckSteps.{into-streamed, into-room, into-checked}
 
 module _ (l d : List ℕ) (bad : Bool) (out : List ℕ) where
-  pub list-over : (a : Answer) → sizeLimit < length d → a ≡ refused 1 0 → IntoFor (listCall l d out) bad out a out
+  pub list-over : (a : Answer) → sizeLimit < length d → a ≡ refused 1 0 → CallAnswered (listCall l d out) bad out a out
   unfolding answer if_then_else_
   list-over a h e =
       into-refused (listCall l d out) bad out a (λ expected. e ∙ sym (rw (lt-ltb sizeLimit (length d) h) (or-else-first (refused 1 0) _ (λ z. omega arith))))
@@ -43,58 +46,59 @@ module _ (l d : List ℕ) (bad : Bool) (out : List ℕ) where
 
     -- the content of the call, and its end of the order
     abbrev last : Elements → Option (List ℕ) → Answer
-    last es expected = tail (tagsIn l) es (met (content (tagsIn l) (tree d) d)) (listedStream (tagsIn l) es d) (length out) expected
+    last es expected = answerFrom13 (tagsIn l) es (contentWritesUN (content (tagsIn l) (tree d) d)) (listedStream (tagsIn l) es d) (length out) expected
 
     -- after 1
     on : (expected : Option (List ℕ)) → listCall l d out expected .answer ≡ (f orElse answerOf (dataSet d) orElse last (tree d) expected)
     unfolding answer stream contentOf if_then_else_
     on expected = rw (le-ltb sizeLimit (length d) h) (or-else-second (accepted 0) _ refl)
 
-    list-refused : (f .number ≡ 0 → ⊥) → IntoFor (listCall l d out) bad out f out
+    list-refused : (f .number ≡ 0 → ⊥) → CallAnswered (listCall l d out) bad out f out
     list-refused k = into-refused (listCall l d out) bad out f (λ expected. sym (on expected ∙ or-else-first f _ k)) k
 
-    module _ (k : f .number ≡ 0) (x : Extent) (w : x ≡ wholeOf (length d)) (r : Answer) (ys : List ℕ) (t : TailFor l d x after.Nothing bad out r ys) where
+    module _ (k : f .number ≡ 0) (x : Extent) (w : x ≡ wholeOf (length d)) (r : Answer) (ys : List ℕ) (t : AnsweredFrom13 l d x signatureItem.Absent bad out r ys) where
       whole : elementsIn d x ≡ dataSet d
       whole = rw w (sym (data-set-is d h))
 
       -- the call, where the data set is read
       read-call : (es : Elements) (next : ℕ) → dataSet d ≡ read es next → (expected : Option (List ℕ))
           → _≡_ {A = Result}
-          (record { answer = tail (tagsIn l) es (met (content (tagsIn l) (tree d) d)) (allStream (tagsIn l) es d after.Nothing) (length out) expected; stream = allStream (tagsIn l) es d after.Nothing; expected = expected })
+          (record { answer = answerFrom13 (tagsIn l) es (contentWritesUN (content (tagsIn l) (tree d) d)) (wholeStream (tagsIn l) es d signatureItem.Absent) (length out) expected; stream = wholeStream (tagsIn l) es d signatureItem.Absent; expected = expected })
           (listCall l d out expected)
-      unfolding stream allStream
+      unfolding stream wholeStream
       read-call es next q expected =
-          let s : allStream (tagsIn l) es d after.Nothing ≡ listedStream (tagsIn l) es d = append-nil (listedStream (tagsIn l) es d) in
+          let s : wholeStream (tagsIn l) es d signatureItem.Absent ≡ listedStream (tagsIn l) es d = append-nil (listedStream (tagsIn l) es d) in
           let v : es ≡ tree d = sym (ap treeOf q) in
-          let a : tail (tagsIn l) es (met (content (tagsIn l) (tree d) d)) (allStream (tagsIn l) es d after.Nothing) (length out) expected ≡ listCall l d out expected .answer =
-          ap (λ (b : List ℕ). tail (tagsIn l) es (met (content (tagsIn l) (tree d) d)) b (length out) expected) s ∙ ap (λ (b : Elements). last b expected) v
+          let a : answerFrom13 (tagsIn l) es (contentWritesUN (content (tagsIn l) (tree d) d)) (wholeStream (tagsIn l) es d signatureItem.Absent) (length out) expected ≡ listCall l d out expected .answer =
+          ap (λ (b : List ℕ). answerFrom13 (tagsIn l) es (contentWritesUN (content (tagsIn l) (tree d) d)) b (length out) expected) s ∙ ap (λ (b : Elements). last b expected) v
           ∙ sym (on expected ∙ or-else-second f _ k ∙ or-else-second (answerOf (dataSet d)) _ (ap (λ (p : Reading Elements). answerOf p .number) q)) in
-          let b : allStream (tagsIn l) es d after.Nothing ≡ listedStream (tagsIn l) (tree d) d = s ∙ ap (λ (c : Elements). listedStream (tagsIn l) c d) v in
+          let b : wholeStream (tagsIn l) es d signatureItem.Absent ≡ listedStream (tagsIn l) (tree d) d = s ∙ ap (λ (c : Elements). listedStream (tagsIn l) c d) v in
           ap₂ (λ (y : Answer) (z : List ℕ). record { answer = y; stream = z; expected = expected }) a b
 
-      by : (p : Reading Elements) → dataSet d ≡ p → IntoFor (listCall l d out) bad out r ys
+      by : (p : Reading Elements) → dataSet d ≡ p → CallAnswered (listCall l d out) bad out r ys
       by (fault g) q =
           let n : g .number ≡ 0 → ⊥ = λ z. omega (arith, faults-inside d g q .least) in
-          into-fault (listCall l d out) l d x after.Nothing bad out r ys t g (whole ∙ q) n
+          into-fault (listCall l d out) l d x signatureItem.Absent bad out r ys t g (whole ∙ q) n
           (λ expected. sym (on expected ∙ or-else-second f _ k ∙ rw q (or-else-first g _ n)))
       by (read es next) q =
-          into-read (listCall l d out) l d x after.Nothing bad out r ys t es next (met (content (tagsIn l) (tree d) d)) (whole ∙ q) h
+          into-read (listCall l d out) l d x signatureItem.Absent bad out r ys t es next (contentWritesUN (content (tagsIn l) (tree d) d)) (whole ∙ q) h
           (λ z. never-met (tagsIn l) (tree d) d (subst (λ (v : Elements). tagsAnswer 0 (tagsIn l) v .number ≡ 0) (sym (ap treeOf q)) z)) (read-call es next q)
 
-    pub list-into : (x : Extent) → x ≡ wholeOf (length d) → (r : Answer) (ys : List ℕ) → StreamFor l d x after.Nothing bad out r ys → IntoFor (listCall l d out) bad out r ys
-    list-into x w r ys t = go (eqb (f .number) 0) refl
+    pub list-call : (x : Extent) → x ≡ wholeOf (length d) → (r : Answer) (ys : List ℕ) → AnsweredFrom10 l d x signatureItem.Absent bad out r ys → CallAnswered (listCall l d out) bad out r ys
+    list-call x w r ys t = go (eqb (f .number) 0) refl
       where
-        go : (b : Bool) → eqb (f .number) 0 ≡ b → IntoFor (listCall l d out) bad out r ys
+        go : (b : Bool) → eqb (f .number) 0 ≡ b → CallAnswered (listCall l d out) bad out r ys
         go true q = let k = eqb-true (f .number) 0 q in by k x w r ys (t .on k) (dataSet d) refl
         go false q = let k = eqb-false (f .number) 0 q in let v = t .refused k in rw (v .0, v .1) (list-refused k)
 
 -- ---- the calls
-pub list-streamed : (l d out after : List ℕ) (a : Answer) → IntoFor (listCall l d out) false out a after → Streamed (result (streamCall l d out)) out a after
+pub list-streamed : (l d out after : List ℕ) (a : Answer) → CallAnswered (listCall l d out) false out a after → Streamed (result (streamCall l d out)) out a after
 list-streamed l d out after a s = into-streamed (listCall l d out) out after a s
 
-module _ (l d expected work after : List ℕ) (a : Answer) (s : IntoFor (listCall l d work) (not (eqb (length expected) 32)) work a after) where
+module _ (l d expected work after : List ℕ) (a : Answer) (bad : Bool) (n : bad ≡ badDigestLength (some expected))
+    (s : CallAnswered (listCall l d work) bad work a after) where
   pub list-room : length after ≡ length work → a .number ≡ 0 → a .length ≤ length after
-  list-room = into-room (listCall l d work) expected work after a s
+  list-room = into-room (listCall l d work) expected work after a bad n s
 
   pub list-checked : (r : Checked) → CheckOf a expected after r → CheckedAs (result (checkCall l d expected work)) work r after
-  list-checked r k = into-checked (listCall l d work) expected work after a s r refl k
+  list-checked r k = into-checked (listCall l d work) expected work after a bad n s r refl k

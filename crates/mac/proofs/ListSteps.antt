@@ -11,21 +11,24 @@ use borrow.Author.Tests.{eq-eqb, ne-eqb, ltb-false, ltb-true, eqb-true}
 use Rattle.answer.specs.declared.Answer.{Answer}
 use Rattle.answer.specs.If.{if_then_else_}
 use Rattle.answer.specs.Answer.{accepted, refused, _orElse_}
-use Rattle.dataset.specs.Tree.{Element, Elements, none, and, tagOf}
+use Rattle.dataset.specs.Tree.{Element, Elements, none, tagOf}
 use Rattle.dataset.specs.Order.{ElementsLie}
 use Rattle.dataset.specs.Reading.{Reading, fault, read, _>>=_, element, explicit, byOne, elementsAt, oneAt}
-use Rattle.dataset.specs.Lookup.{find}
+use Rattle.dataset.specs.Lookup.{elementOf}
 use Rattle.dataset.proofs.Bounded.{explicit-bounded}
 use Rattle.dataset.proofs.Unfolding.{Within, elements-within}
 use Rattle.dataset.proofs.Guarantees.{holds-read, ElementsIn, elements-read}
-use Rattle.mac.specs.TagList.{tagsIn, ascending}
+use Rattle.mac.specs.TagList.{tagsIn, ascendingAnswer}
 use Rattle.mac.specs.Stream.{streamOf, listedStream}
-use Rattle.mac.specs.Modes.{isUN, holdsUN, elementAnswer, tagsAnswer}
-use Rattle.mac.specs.Writer.{keeps, oneStream, oneWalked, Walk, listedAnswer, ListedLeaves, ListWalk, wantedOf, stoppedOf, mergedOf, endedOf}
-use Rattle.mac.specs.Extents.{Lies, elementsIn}
+use Rattle.mac.specs.UN.{isUN, holdsUN}
+use Rattle.mac.specs.Modes.{elementAnswer, tagsAnswer}
+use Rattle.mac.specs.Inner.Keep.{keeps}
+use Rattle.mac.specs.Inner.Writer.{oneStream, oneWalked, Walk}
+use Rattle.mac.specs.Inner.Listed.{listedAnswer, ListedLeaves, ListWalk, nextListed, stoppedOf, mergedOf, endedOf}
+use Rattle.mac.specs.Inner.Extent.{Lies, elementsIn}
 use Rattle.mac.specs.declared.extent.Extent.{Extent}
 use Rattle.mac.specs.declared.listed.Listed.{Listed}
-use Rattle.mac.specs.declared.writer.Keep.{Keep}
+use Rattle.mac.specs.declared.keep.Keep.{Keep}
 use Rattle.mac.specs.declared.writer.OneWritten.{OneWritten}
 use Rattle.mac.specs.declared.writer.OneWritten.the-variants as one
 use Rattle.mac.proofs.TagListSteps.{tags-more, tags-none}
@@ -53,7 +56,7 @@ pub record ListLoop (l d : List ℕ) (x : Extent) (xs₀ xs : List ℕ) (at leas
   pub on : On d (elementsIn d x) (accepted 0) 0 (tagsIn l) xs₀ (elementsAt explicit d (x .delimited) (x .left) (x .stop) at least) (s .answer) (s .index) (from l (s .index)) xs
   pub long : length xs ≡ length xs₀
 
-pub list-start : (l d : List ℕ) (x : Extent) (xs : List ℕ) (a : Answer) → ascending 0 0 (tagsIn l) ≡ accepted 0 → Lies d x → a ≡ accepted 0
+pub list-start : (l d : List ℕ) (x : Extent) (xs : List ℕ) (a : Answer) → ascendingAnswer 0 0 (tagsIn l) ≡ accepted 0 → Lies d x → a ≡ accepted 0
     → ListLoop l d x xs xs (x .from) 0 (record { index = 0; answer = a })
 list-start l d x xs a o lies e =
     rw e record {
@@ -110,7 +113,7 @@ module _ (l d xs ys : List ℕ) (left at next least past : ℕ) (c : Keep) (s s�
   -- a refusal
   stops : (number : ℕ) → (number ≡ 0 → ⊥) → s′ ≡ stoppedOf (length l / 4) number (s .index)
       → On d (q >>= inFront e) (s .answer) (s .index) (from l (s .index)) xs q (refused number (s .index)) (length l / 4) [] ys → Turn
-  unfolding ascending
+  unfolding ascendingAnswer
   stops number k z g =
       let t = tags-none l (length l / 4) (omega arith) in
       record {
@@ -118,8 +121,8 @@ module _ (l d xs ys : List ℕ) (left at next least past : ℕ) (c : Keep) (s s�
         state = rw z record { below = omega arith; few = omega arith; order = rw t; fine = λ h. absurd (omega arith); form = λ h. absurd (k h) };
       }
 
-  turn : (tags : List ℕ) → from l (s .index) ≡ tags → c ≡ wantedOf tags → s′ ≡ mergedOf (length l / 4) tags s (tagOf e) (isUN e) (holdsUN e) past → Turn
-  unfolding wantedOf mergedOf ascending if_then_else_
+  turn : (tags : List ℕ) → from l (s .index) ≡ tags → c ≡ nextListed tags → s′ ≡ mergedOf (length l / 4) tags s (tagOf e) (isUN e) (holdsUN e) past → Turn
+  unfolding nextListed mergedOf ascendingAnswer if_then_else_
   turn [] t k z = stays z (same-output (rw k)) (rw t) (rw t (on-none d q e (s .answer) (s .index) xs))
   turn (wanted ∷ tags) t k z = go (ltb (tagOf e) wanted) (ltb wanted (tagOf e)) (isUN e) (holdsUN e) refl refl refl refl z
     where
@@ -170,7 +173,7 @@ module _ (l d xs ys : List ℕ) (left at next least past : ℕ) (c : Keep) (s s�
 
 turned : (l d xs ys : List ℕ) (left at next least past : ℕ) (c : Keep) (s s′ : Listed) (e : Element) (tag : ℕ) (unknown holds : Bool) (q : Reading Elements) → State l at least s → at < next
     → past ≤ s .answer .length + (next - at) → past ≡ s .answer .length + length (oneStream (keeps c) (element e) d) → ys ≡ sets xs (s .answer .length) (oneStream (keeps c) (element e) d)
-    → tagOf e ≡ tag → isUN e ≡ unknown → holdsUN e ≡ holds → c ≡ wantedOf (from l (s .index)) → s′ ≡ mergedOf (length l / 4) (from l (s .index)) s tag unknown holds past
+    → tagOf e ≡ tag → isUN e ≡ unknown → holdsUN e ≡ holds → c ≡ nextListed (from l (s .index)) → s′ ≡ mergedOf (length l / 4) (from l (s .index)) s tag unknown holds past
     → ((es : Elements) (n : ℕ) → q ≡ read es n → ElementsLie es d left (tag + 1) next n)
     → On d (q >>= inFront e) (s .answer) (s .index) (from l (s .index)) xs q (s′ .answer) (s′ .index) (from l (s′ .index)) ys × State l next (tag + 1) s′
 turned l d xs ys left at next least past c s s′ e tag unknown holds q i a b m y f g h k z lie =
@@ -185,7 +188,7 @@ fault-length d x at least f h e =
     w .nothing
 
 -- ---- a turn of the loop: r is what the walk over one element answers, and ys what it leaves
-module _ (l d : List ℕ) (x : Extent) (xs₀ xs : List ℕ) (at least : ℕ) (s : Listed) (i : ListLoop l d x xs₀ xs at least s) (c : Keep) (k : c ≡ wantedOf (from l (s .index))) (r : OneWritten) (ys : List ℕ)
+module _ (l d : List ℕ) (x : Extent) (xs₀ xs : List ℕ) (at least : ℕ) (s : Listed) (i : ListLoop l d x xs₀ xs at least s) (c : Keep) (k : c ≡ nextListed (from l (s .index))) (r : OneWritten) (ys : List ℕ)
     (w : Walk (oneWalked (keeps c)) (oneStream (keeps c)) (oneAt explicit d (x .delimited) (x .left) (x .stop) at least) d (s .answer .length) r xs ys) where
   ended-length : (tags : List ℕ) → endedOf tags s .length ≤ at
   unfolding endedOf
@@ -200,7 +203,7 @@ module _ (l d : List ℕ) (x : Extent) (xs₀ xs : List ℕ) (at least : ℕ) (s
 
   ended-is : (tags : List ℕ) → from l (s .index) ≡ tags → (next : ℕ) → ys ≡ xs
       → (endedOf tags s ≡ listedAnswer (s .answer) (s .index) tags d (read none next)) × ListedLeaves (s .answer) (s .index) tags d (read none next) xs ys
-  unfolding endedOf listedAnswer ListedLeaves tagsAnswer listedStream elementAnswer find _orElse_ if_then_else_
+  unfolding endedOf listedAnswer ListedLeaves tagsAnswer listedStream elementAnswer elementOf _orElse_ if_then_else_
   ended-is [] t next y = (go (eqb (s .answer .number) 0) refl, λ h. y)
     where
       go : (b : Bool) → eqb (s .answer .number) 0 ≡ b → s .answer ≡ (if b then accepted (s .answer .length + 0) else s .answer)

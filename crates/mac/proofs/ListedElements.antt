@@ -10,10 +10,11 @@ use Rattle.answer.specs.If.{if_then_else_}
 use Rattle.answer.specs.Answer.{accepted, refused}
 use Rattle.answer.proofs.Chain.{both-accepted}
 use Rattle.dataset.specs.Tree.{Element, Elements}
-use Rattle.dataset.specs.Lookup.{find}
+use Rattle.dataset.specs.Lookup.{elementOf}
 use Rattle.mac.specs.Content.{SignedElements, signed, joined, content}
-use Rattle.mac.specs.Modes.{isUN, holdsUN, elementAnswer, tagsAnswer, metInSequence, met}
-use Rattle.mac.proofs.UnknownVr.{none-met}
+use Rattle.mac.specs.UN.{isUN, holdsUN, sequencesWriteUN, contentWritesUN}
+use Rattle.mac.specs.Modes.{elementAnswer, tagsAnswer}
+use Rattle.mac.proofs.UN.{none-met}
 
 -- ---- none of 13, 14 and 15
 pub record Unrefused (o : Option Element) : Type 0 where
@@ -38,23 +39,23 @@ unrefused-element i o g = rw (g .is, g .known, g .clean)
 
 -- the first listed tag, and the others
 pub record TagsUnrefused (i tag : ℕ) (tags : List ℕ) (es : Elements) : Type 0 where
-  pub first : Unrefused (find tag es)
+  pub first : Unrefused (elementOf tag es)
   pub rest : tagsAnswer (i + 1) tags es .number ≡ 0
 
 pub tags-unrefused : (i tag : ℕ) (tags : List ℕ) (es : Elements) → tagsAnswer i (tag ∷ tags) es .number ≡ 0 → TagsUnrefused i tag tags es
 unfolding tagsAnswer
 tags-unrefused i tag tags es h =
-    let p = both-accepted (elementAnswer i (find tag es)) (tagsAnswer (i + 1) tags es) h in
-    record { first = element-unrefused i (find tag es) (p .first); rest = p .second }
+    let p = both-accepted (elementAnswer i (elementOf tag es)) (tagsAnswer (i + 1) tags es) h in
+    record { first = element-unrefused i (elementOf tag es) (p .first); rest = p .second }
 
 -- ---- the signed content
 pub record HasContent (tags : List ℕ) (es : Elements) (d : List ℕ) : Type 0 where
   pub row : SignedElements
   pub is : content tags es d ≡ some row
-  pub unmet : metInSequence row ≡ false
+  pub unmet : sequencesWriteUN row ≡ false
 
 pub has-content : (tags : List ℕ) (i : ℕ) (es : Elements) (d : List ℕ) → tagsAnswer i tags es .number ≡ 0 → HasContent tags es d
-unfolding content metInSequence
+unfolding content sequencesWriteUN
 has-content [] i es d h = record { row = SignedElements.none; is = refl; unmet = refl }
 has-content (tag ∷ tags) i es d h =
     let g = tags-unrefused i tag tags es h in
@@ -67,5 +68,5 @@ has-content (tag ∷ tags) i es d h =
     }
 
 -- what the tag by tag answer leaves has no UN to meet
-pub never-met : (tags : List ℕ) (es : Elements) (d : List ℕ) → tagsAnswer 0 tags es .number ≡ 0 → met (content tags es d) ≡ false
-never-met tags es d h = let r = has-content tags 0 es d h in ap met (r .is) ∙ r .unmet
+pub never-met : (tags : List ℕ) (es : Elements) (d : List ℕ) → tagsAnswer 0 tags es .number ≡ 0 → contentWritesUN (content tags es d) ≡ false
+never-met tags es d h = let r = has-content tags 0 es d h in ap contentWritesUN (r .is) ∙ r .unmet

@@ -14,32 +14,33 @@ use Rattle.answer.specs.If.{if_then_else_}
 use Rattle.answer.specs.Answer.{accepted, refused, _orElse_}
 use Rattle.dataset.specs.Tree.{Element, Elements, none, and, tagOf}
 use Rattle.dataset.specs.Reading.{Reading, fault, read, _>>=_}
-use Rattle.dataset.specs.Lookup.{find}
-use Rattle.mac.specs.TagList.{ascending}
+use Rattle.dataset.specs.Lookup.{elementOf}
+use Rattle.mac.specs.TagList.{ascendingAnswer}
 use Rattle.mac.specs.Stream.{streamOf, listedStream}
-use Rattle.mac.specs.Modes.{isUN, holdsUN, elementAnswer, tagsAnswer}
-use Rattle.mac.specs.Writer.{listedAnswer, ListedLeaves}
-use Rattle.mac.proofs.Runs.{sets-append}
+use Rattle.mac.specs.UN.{isUN, holdsUN}
+use Rattle.mac.specs.Modes.{elementAnswer, tagsAnswer}
+use Rattle.mac.specs.Inner.Listed.{listedAnswer, ListedLeaves}
+use Rattle.mac.proofs.OutputSteps.{sets-append}
 use Rattle.mac.proofs.Finding.{find-past, find-here}
 
--- ---- tags in ascending order, from `least` on
+-- ---- tags in ascendingAnswer order, from `least` on
 abbrev pub Ascends : (index least : ℕ) → List ℕ → Type 0
-Ascends index least tags = ascending index least tags ≡ accepted 0
+Ascends index least tags = ascendingAnswer index least tags ≡ accepted 0
 
 record Split (index least wanted : ℕ) (tags : List ℕ) : Type 0 where
   pub above : least ≤ wanted
   pub rest : Ascends (index + 1) (wanted + 1) tags
 
 split : (index least wanted : ℕ) (tags : List ℕ) → Ascends index least (wanted ∷ tags) → Split index least wanted tags
-unfolding ascending if_then_else_
+unfolding ascendingAnswer if_then_else_
 split index least wanted tags a = go (ltb wanted least) refl a
   where
-    go : (b : Bool) → ltb wanted least ≡ b → (if b then refused 11 index else ascending (index + 1) (wanted + 1) tags) ≡ accepted 0 → Split index least wanted tags
+    go : (b : Bool) → ltb wanted least ≡ b → (if b then refused 11 index else ascendingAnswer (index + 1) (wanted + 1) tags) ≡ accepted 0 → Split index least wanted tags
     go true e q = let z : _≡_ {A = ℕ} 11 0 = ap (λ (a : Answer). a .number) q in absurd (omega arith)
     go false e q = record { above = ltb-false wanted least e; rest = q }
 
 pub later : (index least more : ℕ) (wanted : ℕ) (tags : List ℕ) → Ascends index least (wanted ∷ tags) → more ≤ wanted → Ascends index more (wanted ∷ tags)
-unfolding ascending if_then_else_
+unfolding ascendingAnswer if_then_else_
 later index least more wanted tags a h = rw (le-ltb wanted more h) (split index least wanted tags a .rest)
 
 pub rest-ascends : (index least wanted : ℕ) (tags : List ℕ) → Ascends index least (wanted ∷ tags) → Ascends (index + 1) (wanted + 1) tags
@@ -99,13 +100,13 @@ refused-on d (read es n) e length number index count tags xs ys r a =
     let q = a es n refl in
     record { answers = rw (q, r); output = λ zs l. rw (q, r) (λ z. absurd (true≢false (sym (eq-eqb number 0 z) ∙ r))) }
 
-first-refused : (index wanted number : ℕ) (tags : List ℕ) (es : Elements) → Refuses number → elementAnswer index (find wanted es) ≡ refused number index
+first-refused : (index wanted number : ℕ) (tags : List ℕ) (es : Elements) → Refuses number → elementAnswer index (elementOf wanted es) ≡ refused number index
     → tagsAnswer index (wanted ∷ tags) es ≡ refused number index
 unfolding tagsAnswer _orElse_ if_then_else_
 first-refused index wanted number tags es r a = rw (a, r)
 
 module _ (d : List ℕ) (q : Reading Elements) (e : Element) (length index count wanted : ℕ) (tags xs ys : List ℕ) where
-  pub on-absent : ((es : Elements) (n : ℕ) → q ≡ read es n → find wanted (and e es) ≡ Opt.none)
+  pub on-absent : ((es : Elements) (n : ℕ) → q ≡ read es n → elementOf wanted (and e es) ≡ Opt.none)
       → On d (q >>= inFront e) (accepted length) index (wanted ∷ tags) xs q (refused 13 index) count [] ys
   unfolding elementAnswer
   on-absent h = refused-on d q e length 13 index count (wanted ∷ tags) xs ys refl λ es n w. first-refused index wanted 13 tags (and e es) refl (rw (h es n w))

@@ -14,8 +14,8 @@ use Rattle.dataset.proofs.Bounded.{explicit-bounded}
 use Rattle.dataset.proofs.Unfolding.{elements-are}
 use Rattle.dataset.proofs.Guarantees.{holds-read, OneIs, ElementIn, one-read}
 use Rattle.mac.specs.Stream.{streamOf}
-use Rattle.mac.specs.Modes.{isUN, holdsUN}
-use Rattle.mac.specs.Writer.{oneStream, oneWalked, Leaves, Walk}
+use Rattle.mac.specs.UN.{isUN, holdsUN}
+use Rattle.mac.specs.Inner.Writer.{oneStream, oneWalked, Leaves, Walk}
 use Rattle.mac.specs.declared.writer.OneWritten.{OneWritten}
 use Rattle.mac.specs.declared.writer.OneWritten.the-variants as one
 use Rattle.mac.proofs.StreamLength.{element-length}

@@ -2,19 +2,19 @@
 use Prim.Native.Nat.{ℕ, _-_, _≤_}
 use mathlib.Core.Path.{_≡_, refl}
 use mathlib.Core.Bool.{Bool, true, false, _||_}
-use mathlib.Core.List.{List}
+use mathlib.Core.List.{List, _++_}
 use native.Mathlib.Omega.{arith}
 use lib.ListN.{length, length-append}
 use Rattle.answer.specs.If.{if_then_else_}
 use Rattle.dataset.specs.Tree.{Element, Elements, tagOf}
 use Rattle.dataset.specs.Order.{ElementsLie}
-use Rattle.mac.specs.TagList.{barred}
+use Rattle.mac.specs.TagList.{barred, unlessBarred}
 use Rattle.mac.specs.Content.{signedElements}
-use Rattle.mac.specs.Stream.{unlessBarred, streamOf, elementsStream}
-use Rattle.mac.specs.Modes.{isUN, holdsUN, metInSequence}
+use Rattle.mac.specs.Stream.{streamOf, elementsStream}
+use Rattle.mac.specs.UN.{isUN, holdsUN, sequencesWriteUN}
 use Rattle.mac.specs.SignatureMode.{named, leftOut, own}
 use Rattle.mac.proofs.Either.{first-false, second-false}
-use Rattle.mac.proofs.UnknownVr.{none-met}
+use Rattle.mac.proofs.UN.{none-met}
 use Rattle.mac.proofs.StreamLength.{elements-length}
 
 -- an element that is not left out
@@ -29,13 +29,13 @@ module _ (e : Element) (h : leftOut e ≡ false) where
   own-holds-none : holdsUN e ≡ false
   own-holds-none = second-false (isUN e) (holdsUN e) (second-false (barred (tagOf e)) (isUN e || holdsUN e) unnamed)
 
-pub own-never-met : (es : Elements) (d : List ℕ) → metInSequence (signedElements (own es) d) ≡ false
-unfolding own signedElements metInSequence if_then_else_
+pub own-never-met : (es : Elements) (d : List ℕ) → sequencesWriteUN (signedElements (own es) d) ≡ false
+unfolding own signedElements sequencesWriteUN if_then_else_
 own-never-met Elements.none d = refl
 own-never-met (Elements.and e es) d = go (leftOut e) refl (own-never-met es d)
   where
-    go : (b : Bool) → leftOut e ≡ b → metInSequence (signedElements (own es) d) ≡ false
-        → metInSequence (signedElements (if b then own es else Elements.and e (own es)) d) ≡ false
+    go : (b : Bool) → leftOut e ≡ b → sequencesWriteUN (signedElements (own es) d) ≡ false
+        → sequencesWriteUN (signedElements (if b then own es else Elements.and e (own es)) d) ≡ false
     go true q k = k
     go false q k = rw (own-unbarred e q) (none-met e d (signedElements (own es) d) (own-holds-none e q) k)
 
@@ -45,7 +45,7 @@ own-fewer Elements.none d = omega arith
 own-fewer (Elements.and e es) d = go (leftOut e) (barred (tagOf e)) refl (own-fewer es d)
   where
     go : (b t : Bool) → barred (tagOf e) ≡ t → length (elementsStream (own es) d) ≤ length (elementsStream es d)
-        → length (elementsStream (if b then own es else Elements.and e (own es)) d) ≤ length (unlessBarred t (streamOf e d) (elementsStream es d))
+        → length (elementsStream (if b then own es else Elements.and e (own es)) d) ≤ length (unlessBarred t (λ more. streamOf e d ++ more) (elementsStream es d))
     go true true q h = h
     go true false q h = simp length-append (omega arith)
     go false true q h = rw q h

@@ -12,14 +12,15 @@ use Rattle.dataset.specs.Tree.{Element, Elements, none, and, tagOf}
 use Rattle.dataset.specs.Reading.{Reading, One, element, explicit, byOne, elementsAt, oneAt}
 use Rattle.mac.specs.TagList.{barred}
 use Rattle.mac.specs.Stream.{elementsStream}
-use Rattle.mac.specs.Modes.{isUN, holdsUN}
+use Rattle.mac.specs.UN.{isUN, holdsUN}
 use Rattle.mac.specs.SignatureMode.{named, leftOut, own}
-use Rattle.mac.specs.Writer.{keeps, walked, oneStream, oneWalked, Walk}
-use Rattle.mac.specs.Selecting.{Lies, elementsIn}
-use Rattle.mac.specs.Own.{ownStream, noUnknown, ownKeep}
+use Rattle.mac.specs.Inner.Keep.{keeps}
+use Rattle.mac.specs.Inner.Writer.{walked, oneStream, oneWalked, Walk, holdsNone}
+use Rattle.mac.specs.Inner.Extent.{Lies, elementsIn}
+use Rattle.mac.specs.Inner.Own.{ownStream, ownKeep}
 use Rattle.mac.specs.declared.extent.Extent.{Extent}
-use Rattle.mac.specs.declared.writer.Keep.{Keep}
-use Rattle.mac.specs.declared.writer.Keep.the-variants as keep
+use Rattle.mac.specs.declared.keep.Keep.{Keep}
+use Rattle.mac.specs.declared.keep.Keep.the-variants as keep
 use Rattle.mac.specs.declared.writer.Written.the-variants as written
 use Rattle.mac.specs.declared.writer.OneWritten.{OneWritten}
 use Rattle.mac.specs.declared.writer.OneWritten.the-variants as one
@@ -50,15 +51,15 @@ module _ (seen : OneWritten) (tag : ℕ) (unknown holds : Bool) (next to : ℕ) 
 pub record OwnLoop (d : List ℕ) (x : Extent) (xs₀ : List ℕ) (to₀ : ℕ) (xs : List ℕ) (at least to : ℕ) : Type 0 where
   pub inside : at ≤ x .stop
   pub below : to ≤ at + length d
-  pub going : Going noUnknown ownStream d (elementsIn d x) to₀ xs₀ (elementsAt explicit d (x .delimited) (x .left) (x .stop) at least) false to xs
+  pub going : Going holdsNone ownStream d (elementsIn d x) to₀ xs₀ (elementsAt explicit d (x .delimited) (x .left) (x .stop) at least) false to xs
 
 pub own-start : (d : List ℕ) (x : Extent) (xs : List ℕ) (to : ℕ) → Lies d x → to ≤ x .from + length d → OwnLoop d x xs to xs (x .from) 0 to
-own-start d x xs to l h = record { inside = l .order; below = h; going = start noUnknown ownStream d (elementsIn d x) to xs }
+own-start d x xs to l h = record { inside = l .order; below = h; going = start holdsNone ownStream d (elementsIn d x) to xs }
 
 -- what is kept of an element that was seen is what the signature item's own elements begin with
 own-front : (d : List ℕ) (e : Element) (next past : ℕ) (c : Keep) → c ≡ ownKeep (one.Element (tagOf e) (isUN e) (holdsUN e) next past)
-    → Front noUnknown ownStream d (and e) (oneStream (keeps c) (element e) d) false
-unfolding noUnknown ownStream ownKeep own leftOut elementsStream oneStream if_then_else_
+    → Front holdsNone ownStream d (and e) (oneStream (keeps c) (element e) d) false
+unfolding holdsNone ownStream ownKeep own leftOut elementsStream oneStream if_then_else_
 own-front d e next past c q = record { streams = λ es. go (leftOut e) refl es; finds = λ es. refl }
   where
     go : (b : Bool) → leftOut e ≡ b → (es : Elements) → ownStream (and e es) d ≡ oneStream (keeps c) (element e) d ++ ownStream es d
@@ -69,15 +70,15 @@ own-front d e next past c q = record { streams = λ es. go (leftOut e) refl es; 
 module _ (d : List ℕ) (x : Extent) (xs₀ : List ℕ) (to₀ : ℕ) (xs : List ℕ) (at least to : ℕ) (c : Keep) (r : OneWritten) (ys : List ℕ)
     (w : Walk (oneWalked (keeps c)) (oneStream (keeps c)) (oneAt explicit d (x .delimited) (x .left) (x .stop) at least) d to r xs ys)
     (i : OwnLoop d x xs₀ to₀ xs at least to) where
-  pub own-refused : (f : Answer) → r ≡ one.Refused f → Walk (walked noUnknown ownStream) ownStream (elementsIn d x) d to₀ (written.Refused f) xs₀ ys
+  pub own-refused : (f : Answer) → r ≡ one.Refused f → Walk (walked holdsNone ownStream) ownStream (elementsIn d x) d to₀ (written.Refused f) xs₀ ys
   own-refused f q =
-      stop-at noUnknown ownStream d (elementsIn d x) to₀ xs₀ (elementsAt explicit d (x .delimited) (x .left) (x .stop) at least) false to xs (i .going) f ys
+      stop-at holdsNone ownStream d (elementsIn d x) to₀ xs₀ (elementsAt explicit d (x .delimited) (x .left) (x .stop) at least) false to xs (i .going) f ys
       (walk.one-fault (keeps c) d (x .delimited) (x .left) (x .stop) at least to r xs ys (i .inside) w f q)
 
-  pub own-end : (next : ℕ) → r ≡ one.End next → Walk (walked noUnknown ownStream) ownStream (elementsIn d x) d to₀ (written.Past false next to) xs₀ ys
-  unfolding byOne noUnknown ownStream own elementsStream
+  pub own-end : (next : ℕ) → r ≡ one.End next → Walk (walked holdsNone ownStream) ownStream (elementsIn d x) d to₀ (written.Past false next to) xs₀ ys
+  unfolding byOne holdsNone ownStream own elementsStream
   own-end next q =
-      done noUnknown ownStream d (elementsIn d x) to₀ xs₀ (elementsAt explicit d (x .delimited) (x .left) (x .stop) at least) false to xs (i .going) none next to ys
+      done holdsNone ownStream d (elementsIn d x) to₀ xs₀ (elementsAt explicit d (x .delimited) (x .left) (x .stop) at least) false to xs (i .going) none next to ys
       (walk.one-end (keeps c) d (x .delimited) (x .left) (x .stop) at least to r xs ys (i .inside) w next q) refl (omega arith)
       (walk.end-output (keeps c) d (x .delimited) (x .left) (x .stop) at least to r xs ys (i .inside) w next q)
 
@@ -99,7 +100,7 @@ module _ (d : List ℕ) (x : Extent) (xs₀ : List ℕ) (to₀ : ℕ) (xs : List
         record {
           inside = k .inside;
           below = omega (arith, z, i .below, k .past);
-          going = go-on noUnknown ownStream d (elementsIn d x) to₀ xs₀ (elementsAt explicit d (x .delimited) (x .left) (x .stop) at least) false to xs (i .going)
+          going = go-on holdsNone ownStream d (elementsIn d x) to₀ xs₀ (elementsAt explicit d (x .delimited) (x .left) (x .stop) at least) false to xs (i .going)
               (and (e .what)) (oneStream (keeps c) (element (e .what)) d) false (own-front d (e .what) next _ c s)
               (elementsAt explicit d (x .delimited) (x .left) (x .stop) next (tag + 1)) _ (λ es n. refl)
               (walk.one-next (keeps c) d (x .delimited) (x .left) (x .stop) at least to r xs ys (i .inside) w tag unknown holds next past q) past ys (e .passes)

@@ -7,16 +7,16 @@ use mathlib.Core.Option.{Option, some}
 use mathlib.Core.Option as Opt
 use native.Mathlib.Omega.{arith}
 use lib.ListN.{length}
-use Rattle.answer.specs.declared.Answer.{Answer}
 use Rattle.answer.specs.If.{if_then_else_}
+use Rattle.answer.specs.declared.Answer.{Answer}
 use Rattle.dataset.specs.Header.{elementAt}
 use Rattle.dataset.specs.Tree.{Span, span, Element, Elements, Items}
 use Rattle.dataset.specs.Reading.{Reading, fault, read, _>>=_, One, element, explicit, refusal, byHeader, elementsAt, itemsAt, fragmentsAt, oneAt}
-use Rattle.dataset.specs.Lookup.{find}
+use Rattle.dataset.specs.Lookup.{elementOf}
 use Rattle.dataset.specs.declared.header.ElementHeader.{ElementHeader}
 use Rattle.dataset.specs.declared.header.ElementHeader.the-variants as header
 use Rattle.dataset.proofs.Bounds.{ElementFacts, element-facts}
-use Rattle.mac.specs.Selecting.{isThere, placeBy, ElementPlaced, Placed, SoughtIn, PlaceLies}
+use Rattle.mac.specs.Inner.Seek.{isThere, placeBy, ElementPlaced, Placed, SoughtIn, PlaceLies}
 use Rattle.mac.specs.declared.extent.Extent.{Extent}
 use Rattle.mac.specs.declared.seek.Place.{Place}
 use Rattle.mac.specs.declared.seek.Place.the-variants as place
@@ -88,8 +88,8 @@ placed-lies d (some (Element.fragments at tag span parts)) p h = rw h tt
 pub record IsSought (d : List ℕ) (tag tag′ : ℕ) (o : Reading Elements) (p q : Place) (next : ℕ) : Type 0 where
   pub what : Elements
   pub is : o ≡ read what next
-  pub placed : Placed d (find tag what) p
-  pub placed′ : Placed d (find tag′ what) q
+  pub placed : Placed d (elementOf tag what) p
+  pub placed′ : Placed d (elementOf tag′ what) q
 
 pub sought-past : (d : List ℕ) (tag tag′ : ℕ) (o : Reading Elements) (s : Sought) (p q : Place) (next : ℕ) → SoughtIn d tag tag′ o s → s ≡ sought.Past p q next
     → IsSought d tag tag′ o p q next

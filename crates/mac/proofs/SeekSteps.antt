@@ -13,7 +13,7 @@ use Rattle.answer.specs.declared.Answer.{Answer}
 use Rattle.answer.specs.If.{if_then_else_}
 use Rattle.dataset.specs.Tree.{Element, Elements, tagOf}
 use Rattle.dataset.specs.Reading.{Reading, fault, read, _>>=_, One, ended, element, explicit, byOne, oneOutcomeOf}
-use Rattle.dataset.specs.Lookup.{find}
+use Rattle.dataset.specs.Lookup.{elementOf}
 use Rattle.dataset.specs.declared.header.ElementHeader.{ElementHeader}
 use Rattle.dataset.specs.declared.header.ElementHeader.the-variants as header
 use Rattle.dataset.specs.declared.reading.OneOutcome.{OneOutcome}
@@ -22,7 +22,8 @@ use Rattle.dataset.proofs.Bounded.{explicit-bounded}
 use Rattle.dataset.proofs.Unfolding.{elements-are}
 use Rattle.dataset.proofs.Outcomes.{IsElement, is-one-fault, is-one-end}
 use Rattle.dataset.proofs.Steps.{one-found, one-past}
-use Rattle.mac.specs.Selecting.{Lies, elementsIn, isThere, placeBy, placeOn, Placed, SoughtIn}
+use Rattle.mac.specs.Inner.Extent.{Lies, elementsIn}
+use Rattle.mac.specs.Inner.Seek.{isThere, placeBy, placeOn, Placed, SoughtIn}
 use Rattle.mac.specs.declared.extent.Extent.{Extent}
 use Rattle.mac.specs.declared.seek.Place.{Place}
 use Rattle.mac.specs.declared.seek.Place.the-variants as place
@@ -63,15 +64,15 @@ hit tag e = if eqb (tagOf e) tag then some e else Opt.none
 
 unfoldable pub seen : (tag : ℕ) → Option Element → Reading Elements → Reading (Option Element)
 seen tag f (fault g) = fault g
-seen tag f (read es n) = read (orLater f (find tag es)) n
+seen tag f (read es n) = read (orLater f (elementOf tag es)) n
 
 -- one element more in front
-front : (tag : ℕ) (f : Option Element) (e : Element) (es : Elements) → orLater f (find tag (Elements.and e es)) ≡ orLater (orLater f (hit tag e)) (find tag es)
-unfolding orLater hit find if_then_else_
+front : (tag : ℕ) (f : Option Element) (e : Element) (es : Elements) → orLater f (elementOf tag (Elements.and e es)) ≡ orLater (orLater f (hit tag e)) (elementOf tag es)
+unfolding orLater hit elementOf if_then_else_
 front tag (some g) e es = refl
 front tag Opt.none e es = go (eqb (tagOf e) tag)
   where
-    go : (b : Bool) → (if b then some e else find tag es) ≡ orLater (if b then some e else Opt.none) (find tag es)
+    go : (b : Bool) → (if b then some e else elementOf tag es) ≡ orLater (if b then some e else Opt.none) (elementOf tag es)
     go true = refl
     go false = refl
 
@@ -129,7 +130,7 @@ module _ (d : List ℕ) (x : Extent) (at least : ℕ) (l : Lies d x) (e : Elemen
   }
 
 seen-none : (tag : ℕ) (f : Option Element) (n : ℕ) → seen tag f (read Elements.none n) ≡ read f n
-unfolding seen orLater find
+unfolding seen orLater elementOf
 seen-none tag Opt.none n = refl
 seen-none tag (some g) n = refl
 
@@ -143,8 +144,8 @@ seen-read : (d : List ℕ) (tag tag′ : ℕ) (f f′ : Option Element) (o : Rea
 unfolding seen orLater
 seen-read d tag tag′ f f′ (fault g) n p q h k e e′ = absurd (true≢false (cc))
 seen-read d tag tag′ f f′ (read es m) n p q h k e e′ =
-    let z : find tag es ≡ f = cc in
-    let z′ : find tag′ es ≡ f′ = cc in
+    let z : elementOf tag es ≡ f = cc in
+    let z′ : elementOf tag′ es ≡ f′ = cc in
     let y : n ≡ m = cc in
     record { first = p; second = q; is = rw y; placed = rw z h; placed′ = rw z′ k }
 

@@ -1,4 +1,4 @@
--- Places: the values and the items that stand in them, and what `seek` and `item_of` say of them. Assumes nothing.
+-- Places: the values and the items that stand in them, and what `seek` and `find_item_under` say of them. Assumes nothing.
 use Prim.Native.Nat.{ℕ, _≤_, _<_}
 use mathlib.Core.Path.{_≡_, refl}
 use mathlib.Core.Logic.{⊎-elim}
@@ -14,17 +14,19 @@ use Rattle.answer.specs.If.{if_then_else_}
 use Rattle.dataset.specs.Bytes.{between}
 use Rattle.dataset.specs.Tree.{Element, Elements}
 use Rattle.dataset.specs.Reading.{Reading, fault, read}
-use Rattle.dataset.specs.Lookup.{find}
-use Rattle.mac.specs.SignatureMode.{itemsOf, valueOf, itemWhere}
-use Rattle.mac.specs.Selecting.{elementsIn, itemsIn, Lies, Placed, PlaceLies, SoughtAs, SoughtIn, wantedBy, ChosenAs, ChosenIn, ItemOf, Stands}
+use Rattle.dataset.specs.Lookup.{elementOf}
+use Rattle.mac.specs.Selection.{itemsOf, valueOf, itemWhere}
+use Rattle.mac.specs.Inner.Extent.{elementsIn, itemsIn, Lies}
+use Rattle.mac.specs.Inner.Seek.{Placed, PlaceLies, SoughtAs, SoughtIn, Located}
+use Rattle.mac.specs.Inner.Selection.{hasKey, FoundItemAs, FoundItemIn, FoundItemUnder}
 use Rattle.mac.specs.declared.extent.Extent.{Extent}
 use Rattle.mac.specs.declared.seek.Place.{Place}
 use Rattle.mac.specs.declared.seek.Place.the-variants as place
 use Rattle.mac.specs.declared.seek.Sought.{Sought}
 use Rattle.mac.specs.declared.seek.Sought.the-variants as sought
-use Rattle.mac.specs.declared.selection.Wanted.{Wanted}
-use Rattle.mac.specs.declared.selection.Chosen.{Chosen}
-use Rattle.mac.specs.declared.selection.Chosen.the-variants as chosen
+use Rattle.mac.specs.declared.selection.ItemKey.{ItemKey}
+use Rattle.mac.specs.declared.selection.FoundItem.{FoundItem}
+use Rattle.mac.specs.declared.selection.FoundItem.the-variants as found
 use Rattle.mac.proofs.Places.{placed-lies}
 use Rattle.mac.proofs.seek.Place as enum
 
@@ -68,31 +70,31 @@ module _ (d : List ℕ) (p : Place) where
     value-at want (some (Element.fragments at tag span parts)) q = never (cc)
 
 -- ---- where an element stands
-pub place-lies : (d : List ℕ) (p : Place) → Stands d p → PlaceLies d p
+pub place-lies : (d : List ℕ) (p : Place) → Located d p → PlaceLies d p
 place-lies d p s = placed-lies d (s .element) p (s .placed)
 
 -- what `seek` found in a data set whose elements are es
 module _ (d : List ℕ) (tag tag′ : ℕ) (es : Elements) (n : ℕ) (r : Sought) (k : SoughtAs d tag tag′ es n r) (first second : Place) (next : ℕ)
     (is : r ≡ sought.Past first second next) where
-  pub placed-first : Placed d (find tag es) first
+  pub placed-first : Placed d (elementOf tag es) first
   placed-first = let e : k .first ≡ first = cc (k .is) in rw e at (k .placed)
 
-  pub placed-second : Placed d (find tag′ es) second
+  pub placed-second : Placed d (elementOf tag′ es) second
   placed-second = let e : k .second ≡ second = cc (k .is) in rw e at (k .placed′)
 
 module _ (d : List ℕ) (tag tag′ : ℕ) (x : Extent) (r : Sought) (s : SoughtIn d tag tag′ (elementsIn d x) r) (first second : Place) (next : ℕ)
     (is : r ≡ sought.Past first second next) where
-  both : (a : Reading Elements) → SoughtIn d tag tag′ a r → Stands d first × Stands d second
+  both : (a : Reading Elements) → SoughtIn d tag tag′ a r → Located d first × Located d second
   both (fault f) k = never (cc)
   both (read es n) k = (
-    record { element = find tag es; placed = placed-first d tag tag′ es n r k first second next is },
-    record { element = find tag′ es; placed = placed-second d tag tag′ es n r k first second next is },
+    record { element = elementOf tag es; placed = placed-first d tag tag′ es n r k first second next is },
+    record { element = elementOf tag′ es; placed = placed-second d tag tag′ es n r k first second next is },
   )
 
-  pub first-stands : Stands d first
+  pub first-stands : Located d first
   first-stands = both (elementsIn d x) s .0
 
-  pub second-stands : Stands d second
+  pub second-stands : Located d second
   second-stands = both (elementsIn d x) s .1
 
 -- ---- the item that is meant
@@ -104,11 +106,11 @@ NoItems p = OneOf (0 ∷ 1 ∷ 3 ∷ []) (tagOf enum.the-type p)
 not-items : (x : Extent) → NoItems (place.Items x) → _≡_ {A = ℕ} 0 1
 not-items x h = ⊎-elim (λ e. omega arith) (λ k. ⊎-elim (λ e. omega arith) (λ e. omega arith) k) h
 
-module _ (d : List ℕ) (p : Place) (w : Wanted) where
-  pub item-none : NoItems p → ItemOf d p w chosen.Nothing
+module _ (d : List ℕ) (p : Place) (w : ItemKey) where
+  pub item-none : NoItems p → FoundItemUnder d p w found.Absent
   item-none h = record { says = by-element }
     where
-      by-element : (o : Option Element) → Placed d o p → ChosenAs d (itemWhere (wantedBy d w) (itemsOf o)) chosen.Nothing
+      by-element : (o : Option Element) → Placed d o p → FoundItemAs d (itemWhere (hasKey d w) (itemsOf o)) found.Absent
       by-element Opt.none q = refl
       by-element (some (Element.value at tag vr span)) q = refl
       by-element (some (Element.sequence at tag span items)) q = never (not-items (q .0) (rw (q .1) at h))
@@ -121,10 +123,10 @@ module _ (d : List ℕ) (p : Place) (w : Wanted) where
     pub items-level : PlaceLies d p → 0 < x .left
     items-level l = (rw is at l) .1
 
-    pub item-chosen : (r : Chosen) → ChosenIn d w 0 (itemsIn d x) r → ItemOf d p w r
+    pub item-chosen : (r : FoundItem) → FoundItemIn d w 0 (itemsIn d x) r → FoundItemUnder d p w r
     item-chosen r k = record { says = by-element }
       where
-        by-element : (o : Option Element) → Placed d o p → ChosenAs d (itemWhere (wantedBy d w) (itemsOf o)) r
+        by-element : (o : Option Element) → Placed d o p → FoundItemAs d (itemWhere (hasKey d w) (itemsOf o)) r
         by-element Opt.none q = never (cc)
         by-element (some (Element.value at tag vr span)) q = never (cc (q .0))
         by-element (some (Element.sequence at tag span items)) q =

@@ -14,16 +14,17 @@ use Rattle.answer.specs.If.{if_then_else_}
 use Rattle.dataset.specs.Bytes.{between}
 use Rattle.dataset.specs.Vr.{US}
 use Rattle.dataset.specs.Tree.{Element}
-use Rattle.dataset.specs.Lookup.{find}
-use Rattle.mac.specs.Modes.{sameBytes}
-use Rattle.mac.specs.SignatureMode.{macIdNumber, valueOf, twoBytes, macIdOf, lessNul, implicitVrLittleEndian, explicitVrBigEndian, badTransferSyntax, SHA256, onlySpaces, isTerm, badAlgorithm}
-use Rattle.mac.specs.Selecting.{Placed, PlaceLies, WantedLies, Tests, HasId, IsWanted, LessNul}
+use Rattle.dataset.specs.Lookup.{elementOf}
+use Rattle.mac.specs.Bytes.{sameBytes}
+use Rattle.mac.specs.Selection.{macIdNumber, valueOf, twoBytes, macIdOf, lessNul, implicitVrLittleEndian, explicitVrBigEndian, badTransferSyntax, SHA256, onlySpaces, isTerm, badAlgorithm}
+use Rattle.mac.specs.Inner.Seek.{Placed, PlaceLies}
+use Rattle.mac.specs.Inner.Selection.{KeyLies, Tests, SameMacId, TestsKey, LessNul}
 use Rattle.mac.specs.declared.seek.Place.{Place}
 use Rattle.mac.specs.declared.seek.Place.the-variants as place
-use Rattle.mac.specs.declared.selection.Wanted.{Wanted}
-use Rattle.mac.specs.declared.selection.Wanted.the-variants as wanted
+use Rattle.mac.specs.declared.selection.ItemKey.{ItemKey}
+use Rattle.mac.specs.declared.selection.ItemKey.the-variants as key
 use Rattle.mac.proofs.Slices.{length-between}
-use Rattle.mac.proofs.Runs.{drop-one}
+use Rattle.mac.proofs.OutputSteps.{drop-one}
 use Rattle.mac.proofs.CheckSteps.{same-lengths}
 use Rattle.mac.proofs.SelectPlaces.{NoValue, no-value, value-order, value-inside, value-at}
 
@@ -58,28 +59,28 @@ module _ (d : List ℕ) (p : Place) (vr start end : ℕ) (is : p ≡ place.Value
       go false value n h = refl
 
 module _ (d : List ℕ) (p : Place) (start end vr from to : ℕ) (is : p ≡ place.Value vr from to) (lies : PlaceLies d p) (b : Bool) (e : b ≡ (eqb vr US && eqb (to - from) 2)) where
-  pub id-other : b ≡ false → HasId d p start end false
+  pub id-other : b ≡ false → SameMacId d p start end false
   unfolding if_then_else_
   id-other t = record { says = λ o q. rw (two-bytes d p vr from to is lies b e o q, t) }
 
-  pub id-same : (r : Bool) → b ≡ true → r ≡ sameBytes (take (to - from) (drop from d)) (take (end - start) (drop start d)) → HasId d p start end r
+  pub id-same : (r : Bool) → b ≡ true → r ≡ sameBytes (take (to - from) (drop from d)) (take (end - start) (drop start d)) → SameMacId d p start end r
   unfolding if_then_else_ between
   id-same r t w = record { says = λ o q. rw (two-bytes d p vr from to is lies b e o q, t) w }
 
-module _ (d : List ℕ) (w : Wanted) (index : ℕ) (id : Place) where
-  pub wanted-number : (number : ℕ) → w ≡ wanted.Index number → IsWanted d w index id (eqb index number)
+module _ (d : List ℕ) (w : ItemKey) (index : ℕ) (id : Place) where
+  pub wanted-number : (number : ℕ) → w ≡ key.Number number → TestsKey d w index id (eqb index number)
   wanted-number number e es q = rw e
 
-  module _ (start end : ℕ) (e : w ≡ wanted.Id start end) where
-    pub wanted-order : WantedLies d w → start ≤ end
+  module _ (start end : ℕ) (e : w ≡ key.MacId start end) where
+    pub wanted-order : KeyLies d w → start ≤ end
     wanted-order l = (rw e at l) .0
 
-    pub wanted-inside : WantedLies d w → end ≤ length d
+    pub wanted-inside : KeyLies d w → end ≤ length d
     wanted-inside l = (rw e at l) .1
 
-    pub wanted-id : (r : Bool) → HasId d id start end r → IsWanted d w index id r
+    pub wanted-id : (r : Bool) → SameMacId d id start end r → TestsKey d w index id r
     unfolding macIdOf
-    wanted-id r h es q = rw e (h .says (find macIdNumber es) q)
+    wanted-id r h es q = rw e (h .says (elementOf macIdNumber es) q)
 
 -- ---- 21
 same-byte : (l : List ℕ) (i : ℕ) → i < length l → getD l i 1 ≡ getD l i 0

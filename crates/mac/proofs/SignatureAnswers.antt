@@ -10,17 +10,18 @@ use native.Mathlib.Omega.{arith}
 use Rattle.answer.specs.If.{if_then_else_}
 use Rattle.dataset.specs.Vr.{AT, CS, UI}
 use Rattle.dataset.specs.Tree.{Elements}
-use Rattle.dataset.specs.Lookup.{find}
+use Rattle.dataset.specs.Lookup.{elementOf}
 use Rattle.mac.specs.TagList.{tagsIn}
 use Rattle.mac.specs.Modes.{tagsAnswer}
-use Rattle.mac.specs.SignatureMode.{macCalculationTransferSyntaxUid, macAlgorithm, dataElementsSigned, valueOf, need, Selection, refusal, selected, signatureItem, macIdOf, parametersItem, parametersSelect, select, badTransferSyntax, badAlgorithm, meets}
+use Rattle.mac.specs.Selection.{macCalculationTransferSyntaxUid, macAlgorithm, dataElementsSigned, valueOf, need, Selection, refusal, selected, signatureItem, macIdOf, parametersItem, parametersSelect, select, badTransferSyntax, badAlgorithm}
+use Rattle.mac.specs.SignatureMode.{signatureWritesUN}
 use Rattle.mac.proofs.ListedElements.{never-met}
 use Rattle.mac.proofs.OwnContent.{own-never-met}
 
 -- ---- 17 is not given
 
-pub own-unmet : (list : List ℕ) (item es : Elements) (d : List ℕ) → tagsAnswer 0 (tagsIn list) es .number ≡ 0 → meets list item es d ≡ false
-unfolding meets
+pub own-unmet : (list : List ℕ) (item es : Elements) (d : List ℕ) → tagsAnswer 0 (tagsIn list) es .number ≡ 0 → signatureWritesUN list item es d ≡ false
+unfolding signatureWritesUN
 own-unmet list item es d h = rw (never-met (tagsIn list) es d h, own-never-met item d)
 
 -- ---- a refusal of the selection has a number from 18 on
@@ -40,9 +41,9 @@ tests false number s h k = k
 parameters-numbered : (uid d : List ℕ) (item parameters : Elements) → Numbered (parametersSelect uid d item parameters)
 unfolding parametersSelect
 parameters-numbered uid d item parameters =
-    tests (badTransferSyntax uid (valueOf UI (find macCalculationTransferSyntaxUid parameters) d)) 21 _ (omega arith)
-    (tests (badAlgorithm (valueOf CS (find macAlgorithm parameters) d)) 22 _ (omega arith)
-    (needs 23 (valueOf AT (find dataElementsSigned parameters) d) (λ list. selected list item) (omega arith) λ list. tt))
+    tests (badTransferSyntax uid (valueOf UI (elementOf macCalculationTransferSyntaxUid parameters) d)) 21 _ (omega arith)
+    (tests (badAlgorithm (valueOf CS (elementOf macAlgorithm parameters) d)) 22 _ (omega arith)
+    (needs 23 (valueOf AT (elementOf dataElementsSigned parameters) d) (λ list. selected list item) (omega arith) λ list. tt))
 
 pub select-numbered : (uid : List ℕ) (number : ℕ) (es : Elements) (d : List ℕ) → Numbered (select uid number es d)
 unfolding select

@@ -1,9 +1,9 @@
 -- What signature mode answers and leaves, place by place, with the facts of the place as premises. Assumes nothing.
 use Prim.Native.Nat.{ℕ, _-_, _≤_, _<_}
 use mathlib.Core.Path.{_≡_, refl, sym, ap, ap₂, _∙_}
-use mathlib.Core.Bool.{Bool, true, false, not, true≢false}
+use mathlib.Core.Bool.{Bool, true, false, true≢false}
 use mathlib.Core.List.{List, _++_}
-use mathlib.Core.Option.{Option}
+use mathlib.Core.Option.{Option, some}
 use native.Mathlib.Omega.{arith}
 use lib.Dec.{eqb}
 use lib.ListN.{length, take, drop}
@@ -13,25 +13,28 @@ use Rattle.answer.specs.Answer.{accepted, refused, _orElse_}
 use Rattle.answer.proofs.Chain.{or-else-first, or-else-second}
 use Rattle.dataset.specs.Bytes.{between}
 use Rattle.dataset.specs.Tree.{Elements}
-use Rattle.dataset.specs.Reading.{Reading, fault, read, sizeLimit, dataSet, answerOf}
+use Rattle.dataset.specs.Reading.{Reading, fault, read, sizeLimit, dataSet, answerOf, treeOf}
 use Rattle.dataset.proofs.Steps.{data-set-is, data-set-over}
 use Rattle.dataset.proofs.Theorems.{faults-inside}
 use Rattle.mac.specs.TagList.{tagsIn, listAnswer}
 use Rattle.mac.specs.Stream.{listedStream, elementsStream}
-use Rattle.mac.specs.Modes.{treeOf, tail, Result, Streamed, CheckedAs}
-use Rattle.mac.specs.SignatureMode.{numberOf, refusal, selected, select, own, meets, streamBy, answerBy, stream, answer, result, streamCall, checkCall}
-use Rattle.mac.specs.SignatureMode as mode
-use Rattle.mac.specs.Extents.{Lies, elementsIn, wholeOf}
-use Rattle.mac.specs.Own.{ownStream}
-use Rattle.mac.specs.Selecting.{SelectionAs, SelectedIn}
-use Rattle.mac.specs.Tail.{ItemReads, allStream, TailFor, StreamFor, signatureCall, IntoFor, CheckOf}
+use Rattle.mac.specs.Modes.{answerFrom13, badDigestLength}
+use Rattle.mac.specs.Result.{Result, Streamed, CheckedAs}
+use Rattle.mac.specs.Selection.{numberOf, refusal, selected, select}
+use Rattle.mac.specs.SignatureMode.{own, signatureWritesUN, streamBy, answerBy, stream, answer, result, streamCall, checkCall}
+use Rattle.mac.specs.Selection as mode
+use Rattle.mac.specs.Inner.Extent.{Lies, elementsIn, wholeOf}
+use Rattle.mac.specs.Inner.Own.{ownStream}
+use Rattle.mac.specs.Inner.Selection.{SelectionAs, SelectedIn}
+use Rattle.mac.specs.Inner.Calls.{ItemReads, wholeStream, AnsweredFrom13, AnsweredFrom10, signatureCall, CallAnswered}
+use Rattle.mac.specs.Inner.Verdict.{CheckOf}
 use Rattle.mac.specs.declared.extent.Extent.{Extent}
-use Rattle.mac.specs.declared.modes.After.the-variants as after
+use Rattle.mac.specs.declared.modes.SignatureItem.the-variants as signatureItem
 use Rattle.mac.specs.declared.selection.Selection.{Selection}
 use Rattle.mac.specs.declared.selection.Selection.the-variants as selection
 use Rattle.mac.specs.declared.signature_mode.Signature.{Signature}
 use Rattle.mac.specs.declared.verdict.Checked.{Checked}
-use Rattle.mac.proofs.IntoSteps.{into-refused, into-read}
+use Rattle.mac.proofs.CallSteps.{into-refused, into-read}
 use Rattle.mac.proofs.CheckSteps.{into-streamed, into-room, into-checked}
 use Rattle.mac.proofs.SignatureAnswers.{own-unmet, selected-number}
 
@@ -95,7 +98,7 @@ module _ (uid : List ℕ) (which : Signature) (d : List ℕ) (bad : Bool) (out :
   unfolding answer
   on p q expected = rw q
 
-  pub signature-over : (a : Answer) → sizeLimit < length d → a ≡ refused 1 0 → IntoFor call bad out a out
+  pub signature-over : (a : Answer) → sizeLimit < length d → a ≡ refused 1 0 → CallAnswered call bad out a out
   signature-over a h e =
       into-refused call bad out a (λ expected. e ∙ sym (on (fault (refused 1 0)) (data-set-over d h) expected ∙ or-else-first (refused 1 0) _ (λ z. omega arith)))
       (λ z. let y : _≡_ {A = ℕ} 1 0 = ap (λ (x : Answer). x .number) (sym e) ∙ z in omega arith)
@@ -106,7 +109,7 @@ module _ (uid : List ℕ) (which : Signature) (d : List ℕ) (bad : Bool) (out :
 
     -- ---- the selection refuses
     module _ (f : Answer) (e : s ≡ selection.Refused f) where
-      by-selection : (es : Elements) (n : ℕ) → dataSet d ≡ read es n → (m : mode.Selection) → select uid (numberOf which) es d ≡ m → SelectionAs d m s → IntoFor call bad out f out
+      by-selection : (es : Elements) (n : ℕ) → dataSet d ≡ read es n → (m : mode.Selection) → select uid (numberOf which) es d ≡ m → SelectionAs d m s → CallAnswered call bad out f out
       unfolding answerBy
       by-selection es n q (refusal k) m t =
           let a : f ≡ refused k 0 = cc in
@@ -114,14 +117,14 @@ module _ (uid : List ℕ) (which : Signature) (d : List ℕ) (bad : Bool) (out :
           into-refused call bad out f (λ expected. a ∙ sym (on (read es n) q expected ∙ or-else-second (accepted 0) _ refl ∙ rw m)) (λ y. z (ap (λ (v : Answer). v .number) (sym a) ∙ y))
       by-selection es n q (selected list item) m t = let u = t .is in absurd (true≢false (cc))
 
-      by-reading : (p : Reading Elements) → dataSet d ≡ p → SelectedIn uid (numberOf which) d p s → IntoFor call bad out f out
+      by-reading : (p : Reading Elements) → dataSet d ≡ p → SelectedIn uid (numberOf which) d p s → CallAnswered call bad out f out
       by-reading (fault g) q t =
           let a : f ≡ g = cc in
           let n : g .number ≡ 0 → ⊥ = λ z. omega (arith, faults-inside d g q .least) in
           into-refused call bad out f (λ expected. a ∙ sym (on (fault g) q expected ∙ or-else-first g _ n)) (λ y. n (ap (λ (v : Answer). v .number) (sym a) ∙ y))
       by-reading (read es n) q t = by-selection es n q (select uid (numberOf which) es d) refl t
 
-      pub signature-refused : (number : ℕ) → number ≡ numberOf which → SelectedIn uid number d (elementsIn d x) s → IntoFor call bad out f out
+      pub signature-refused : (number : ℕ) → number ≡ numberOf which → SelectedIn uid number d (elementsIn d x) s → CallAnswered call bad out f out
       signature-refused number k t = by-reading (elementsIn d x) (sym whole) (rw k at t)
 
     -- ---- a list is selected
@@ -144,52 +147,53 @@ module _ (uid : List ℕ) (which : Signature) (d : List ℕ) (bad : Bool) (out :
           on (read (g .elements) (g .next)) is-read expected ∙ or-else-second (accepted 0) _ refl
           ∙ ap (λ (v : mode.Selection). answerBy v (g .elements) d (length out) expected) (g .selects)
 
-      signature-list : (listAnswer list .number ≡ 0 → ⊥) → IntoFor call bad out (listAnswer list) out
+      signature-list : (listAnswer list .number ≡ 0 → ⊥) → CallAnswered call bad out (listAnswer list) out
       unfolding answerBy
       signature-list n = into-refused call bad out (listAnswer list) (λ expected. sym (on-list expected ∙ or-else-first (listAnswer list) _ n)) n
 
-      module _ (z : listAnswer list .number ≡ 0) (r : Answer) (ys : List ℕ) (tail-for : TailFor list d x (after.Item item) bad out r ys) where
+      module _ (z : listAnswer list .number ≡ 0) (r : Answer) (ys : List ℕ) (tail-for : AnsweredFrom13 list d x (signatureItem.Item item) bad out r ys) where
         abbrev all : List ℕ
-        all = allStream (tagsIn list) (g .elements) d (after.Item item)
+        all = wholeStream (tagsIn list) (g .elements) d (signatureItem.Item item)
 
         same-stream : all ≡ streamBy what (g .elements) d
-        unfolding allStream streamBy ownStream
+        unfolding wholeStream streamBy ownStream
         same-stream = ap (λ (p : Reading Elements). listedStream (tagsIn list) (g .elements) d ++ elementsStream (own (treeOf p)) d) (g .reads-item)
 
         same-call : (expected : Option (List ℕ))
             → _≡_ {A = Result}
-            (record { answer = tail (tagsIn list) (g .elements) (meets list (g .parts) (g .elements) d) all (length out) expected; stream = all; expected = expected })
+            (record { answer = answerFrom13 (tagsIn list) (g .elements) (signatureWritesUN list (g .parts) (g .elements) d) all (length out) expected; stream = all; expected = expected })
             (call expected)
         unfolding answerBy stream
         same-call expected =
-            let a : tail (tagsIn list) (g .elements) (meets list (g .parts) (g .elements) d) all (length out) expected ≡ call expected .answer =
-            ap (λ (b : List ℕ). tail (tagsIn list) (g .elements) (meets list (g .parts) (g .elements) d) b (length out) expected) same-stream
+            let a : answerFrom13 (tagsIn list) (g .elements) (signatureWritesUN list (g .parts) (g .elements) d) all (length out) expected ≡ call expected .answer =
+            ap (λ (b : List ℕ). answerFrom13 (tagsIn list) (g .elements) (signatureWritesUN list (g .parts) (g .elements) d) b (length out) expected) same-stream
             ∙ sym (on-list expected ∙ or-else-second (listAnswer list) _ z) in
             let b : all ≡ call expected .stream =
             same-stream ∙ ap (λ (v : mode.Selection). streamBy v (g .elements) d) (sym (g .selects))
             ∙ ap (λ (v : Elements). streamBy (select uid (numberOf which) v d) v d) (sym (ap treeOf is-read)) in
             ap₂ (λ (u : Answer) (v : List ℕ). record { answer = u; stream = v; expected = expected }) a b
 
-        tail-into : IntoFor call bad out r ys
-        tail-into =
-            into-read call list d x (after.Item item) bad out r ys tail-for (g .elements) (g .next) (meets list (g .parts) (g .elements) d) (g .reads) h
+        answer-from-13 : CallAnswered call bad out r ys
+        answer-from-13 =
+            into-read call list d x (signatureItem.Item item) bad out r ys tail-for (g .elements) (g .next) (signatureWritesUN list (g .parts) (g .elements) d) (g .reads) h
             (own-unmet list (g .parts) (g .elements) d) same-call
 
-      pub signature-into : (r : Answer) (ys : List ℕ) → StreamFor list d x (after.Item item) bad out r ys → IntoFor call bad out r ys
-      signature-into r ys v = go (eqb (listAnswer list .number) 0) refl
+      pub signature-call : (r : Answer) (ys : List ℕ) → AnsweredFrom10 list d x (signatureItem.Item item) bad out r ys → CallAnswered call bad out r ys
+      signature-call r ys v = go (eqb (listAnswer list .number) 0) refl
         where
-          go : (b : Bool) → eqb (listAnswer list .number) 0 ≡ b → IntoFor call bad out r ys
-          go true q = let z = eqb-true (listAnswer list .number) 0 q in tail-into z r ys (v .on z)
+          go : (b : Bool) → eqb (listAnswer list .number) 0 ≡ b → CallAnswered call bad out r ys
+          go true q = let z = eqb-true (listAnswer list .number) 0 q in answer-from-13 z r ys (v .on z)
           go false q = let n = eqb-false (listAnswer list .number) 0 q in let u = v .refused n in rw (u .0, u .1) (signature-list n)
 
 -- ---- the calls
-pub signature-streamed : (uid : List ℕ) (which : Signature) (d out after : List ℕ) (a : Answer) → IntoFor (signatureCall uid which d out) false out a after
+pub signature-streamed : (uid : List ℕ) (which : Signature) (d out after : List ℕ) (a : Answer) → CallAnswered (signatureCall uid which d out) false out a after
     → Streamed (result (streamCall uid which d out)) out a after
 signature-streamed uid which d out after a s = into-streamed (signatureCall uid which d out) out after a s
 
-module _ (uid : List ℕ) (which : Signature) (d expected work after : List ℕ) (a : Answer) (s : IntoFor (signatureCall uid which d work) (not (eqb (length expected) 32)) work a after) where
+module _ (uid : List ℕ) (which : Signature) (d expected work after : List ℕ) (a : Answer) (bad : Bool) (n : bad ≡ badDigestLength (some expected))
+    (s : CallAnswered (signatureCall uid which d work) bad work a after) where
   pub signature-room : length after ≡ length work → a .number ≡ 0 → a .length ≤ length after
-  signature-room = into-room (signatureCall uid which d work) expected work after a s
+  signature-room = into-room (signatureCall uid which d work) expected work after a bad n s
 
   pub signature-checked : (r : Checked) → CheckOf a expected after r → CheckedAs (result (checkCall uid which d expected work)) work r after
-  signature-checked r k = into-checked (signatureCall uid which d work) expected work after a s r refl k
+  signature-checked r k = into-checked (signatureCall uid which d work) expected work after a bad n s r refl k

@@ -7,8 +7,8 @@ use lib.ListN.{length, length-append, length-take}
 use Rattle.dataset.specs.Bytes.{between}
 use Rattle.dataset.specs.Tree.{Span, Element, value, sequence, fragments, Elements, none, and, Items, last, item, tagOf}
 use Rattle.dataset.specs.Order.{PartsLie, ElementLies, ElementsLie, ItemsLie}
-use Rattle.mac.specs.TagList.{barred}
-use Rattle.mac.specs.Stream.{itemMark, unlessBarred, fragmentsStream, streamOf, elementsStream, itemsStream}
+use Rattle.mac.specs.TagList.{barred, unlessBarred}
+use Rattle.mac.specs.Stream.{itemTagBytes, fragmentsStream, streamOf, elementsStream, itemsStream}
 
 between-most : (d : List ℕ) (from to : ℕ) → length (between d from to) ≤ to - from
 unfolding between
@@ -17,7 +17,7 @@ between-most d from to = simp length-take (omega arith)
 two : (xs ys : List ℕ) (m n : ℕ) → length xs ≤ m → length ys ≤ n → length (xs ++ ys) ≤ m + n
 two xs ys m n h k = rw (length-append xs ys) (omega arith)
 
-kept-most : (b : Bool) (xs ys : List ℕ) (m n : ℕ) → length xs ≤ m → length ys ≤ n → length (unlessBarred b xs ys) ≤ m + n
+kept-most : (b : Bool) (xs ys : List ℕ) (m n : ℕ) → length xs ≤ m → length ys ≤ n → length (unlessBarred b (λ more. xs ++ more) ys) ≤ m + n
 kept-most true xs ys m n h k = omega arith
 kept-most false xs ys m n h k = two xs ys m n h k
 
@@ -26,7 +26,7 @@ unfolding PartsLie fragmentsStream
 parts-length [] d at next r = (r .order, omega arith)
 parts-length (s ∷ ss) d at next r =
     let k = parts-length ss d (s .end) next (r .4) in
-    let z = two itemMark (between d (s .start) (s .end) ++ fragmentsStream ss d) 4 (s .end - s .start + (next - s .end + 4)) (omega arith)
+    let z = two itemTagBytes (between d (s .start) (s .end) ++ fragmentsStream ss d) 4 (s .end - s .start + (next - s .end + 4)) (omega arith)
     (two (between d (s .start) (s .end)) (fragmentsStream ss d) (s .end - s .start) (next - s .end + 4) (between-most d (s .start) (s .end)) (k .1)) in
     (omega (arith, r .1, r .2, k .0), omega (arith, r .1, r .2, k .0, z))
 
@@ -60,6 +60,6 @@ mutual
   items-length (item p es is) d left at next r =
       let h = elements-length es d (left - 1) 0 (at + 8) (r .0) (r .3) in
       let k = items-length is d left (r .0) next (r .4) in
-      let z = two (between d p (p + 4)) (elementsStream es d ++ itemsStream is d) (p + 4 - p) (r .0 - (at + 8) + (next - r .0 + 4)) (between-most d p (p + 4))
+      let z = two itemTagBytes (elementsStream es d ++ itemsStream is d) 4 (r .0 - (at + 8) + (next - r .0 + 4)) (omega arith)
       (two (elementsStream es d) (itemsStream is d) (r .0 - (at + 8)) (next - r .0 + 4) (h .1) (k .1)) in
       (omega (arith, h .0, k .0), omega (arith, h .0, k .0, z))

@@ -12,8 +12,8 @@ use Rattle.answer.specs.declared.Answer.{Answer}
 use Rattle.answer.specs.If.{if_then_else_}
 use Rattle.answer.specs.Answer.{accepted, refused, _orElse_}
 use Rattle.dataset.specs.Bytes.{num16, tagAt}
-use Rattle.mac.proofs.Runs.{drop-one}
-use Rattle.mac.specs.TagList.{barred, tagsIn, badSize, ascending, unbarred, listAnswer}
+use Rattle.mac.proofs.OutputSteps.{drop-one}
+use Rattle.mac.specs.TagList.{barred, tagsIn, badSize, ascendingAnswer, unbarredAnswer, listAnswer}
 
 -- ---- the tags from an index on
 drop-four : (l : List ℕ) (a : ℕ) → a + 4 ≤ length l
@@ -47,18 +47,18 @@ tag-inside l index count e h = omega arith
 -- ---- 11
 pub record OrderLoop (l : List ℕ) (index least : ℕ) : Type 0 where
   pub inside : index ≤ length l / 4
-  pub same : ascending 0 0 (tagsIn l) ≡ ascending index least (tagsIn (drop (4 * index) l))
+  pub same : ascendingAnswer 0 0 (tagsIn l) ≡ ascendingAnswer index least (tagsIn (drop (4 * index) l))
 
 pub order-start : (l : List ℕ) → OrderLoop l 0 0
 order-start l = record { inside = omega arith; same = refl }
 
 module _ (l : List ℕ) (index least : ℕ) (i : OrderLoop l index least) where
   order-on : (tag : ℕ) → index < length l / 4 → tag ≡ tagAt l (4 * index)
-      → ascending 0 0 (tagsIn l) ≡ (if ltb tag least then refused 11 index else ascending (index + 1) (tag + 1) (tagsIn (drop (4 * (index + 1)) l)))
-  unfolding ascending
+      → ascendingAnswer 0 0 (tagsIn l) ≡ (if ltb tag least then refused 11 index else ascendingAnswer (index + 1) (tag + 1) (tagsIn (drop (4 * (index + 1)) l)))
+  unfolding ascendingAnswer
   order-on tag h e = i .same ∙ rw (tags-more l index h, ← e)
 
-  pub order-refused : (tag : ℕ) (a : Answer) → index < length l / 4 → tag ≡ tagAt l (4 * index) → tag < least → a ≡ refused 11 index → a ≡ ascending 0 0 (tagsIn l)
+  pub order-refused : (tag : ℕ) (a : Answer) → index < length l / 4 → tag ≡ tagAt l (4 * index) → tag < least → a ≡ refused 11 index → a ≡ ascendingAnswer 0 0 (tagsIn l)
   unfolding if_then_else_
   order-refused tag a h e k w = w ∙ sym (order-on tag h e ∙ rw (lt-ltb tag least k))
 
@@ -66,26 +66,26 @@ module _ (l : List ℕ) (index least : ℕ) (i : OrderLoop l index least) where
   unfolding if_then_else_
   order-again tag h e k = record { inside = omega arith; same = order-on tag h e ∙ rw (le-ltb tag least k) }
 
-  pub order-done : (a : Answer) → length l / 4 ≤ index → a ≡ accepted 0 → a ≡ ascending 0 0 (tagsIn l)
-  unfolding ascending
+  pub order-done : (a : Answer) → length l / 4 ≤ index → a ≡ accepted 0 → a ≡ ascendingAnswer 0 0 (tagsIn l)
+  unfolding ascendingAnswer
   order-done a h w = w ∙ sym (i .same ∙ rw (tags-none l index h))
 
 -- ---- 12
 pub record BarredLoop (l : List ℕ) (index : ℕ) : Type 0 where
   pub inside : index ≤ length l / 4
-  pub same : unbarred 0 (tagsIn l) ≡ unbarred index (tagsIn (drop (4 * index) l))
+  pub same : unbarredAnswer 0 (tagsIn l) ≡ unbarredAnswer index (tagsIn (drop (4 * index) l))
 
 pub barred-start : (l : List ℕ) → BarredLoop l 0
 barred-start l = record { inside = omega arith; same = refl }
 
 module _ (l : List ℕ) (index : ℕ) (i : BarredLoop l index) where
   barred-on : (tag : ℕ) → index < length l / 4 → tag ≡ tagAt l (4 * index)
-      → unbarred 0 (tagsIn l) ≡ (if barred tag then refused 12 index else unbarred (index + 1) (tagsIn (drop (4 * (index + 1)) l)))
-  unfolding unbarred
+      → unbarredAnswer 0 (tagsIn l) ≡ (if barred tag then refused 12 index else unbarredAnswer (index + 1) (tagsIn (drop (4 * (index + 1)) l)))
+  unfolding unbarredAnswer
   barred-on tag h e = i .same ∙ rw (tags-more l index h, ← e)
 
   pub barred-refused : (tag : ℕ) (b : Bool) (a : Answer) → index < length l / 4 → tag ≡ tagAt l (4 * index) → b ≡ barred tag → b ≡ true → a ≡ refused 12 index
-      → a ≡ unbarred 0 (tagsIn l)
+      → a ≡ unbarredAnswer 0 (tagsIn l)
   unfolding if_then_else_
   barred-refused tag b a h e k t w = w ∙ sym (barred-on tag h e ∙ rw (← k, t))
 
@@ -93,8 +93,8 @@ module _ (l : List ℕ) (index : ℕ) (i : BarredLoop l index) where
   unfolding if_then_else_
   barred-again tag b h e k t = record { inside = omega arith; same = barred-on tag h e ∙ rw (← k, t) }
 
-  pub barred-done : (a : Answer) → length l / 4 ≤ index → a ≡ accepted 0 → a ≡ unbarred 0 (tagsIn l)
-  unfolding unbarred
+  pub barred-done : (a : Answer) → length l / 4 ≤ index → a ≡ accepted 0 → a ≡ unbarredAnswer 0 (tagsIn l)
+  unfolding unbarredAnswer
   barred-done a h w = w ∙ sym (i .same ∙ rw (tags-none l index h))
 
 -- ---- the whole list
@@ -103,11 +103,11 @@ module _ (l : List ℕ) (b : Bool) (e : b ≡ badSize (length l)) where
   unfolding listAnswer _orElse_ if_then_else_
   list-size a t w = w ∙ sym (rw (← e, t))
 
-  module _ (t : b ≡ false) (f : Answer) (g : f ≡ ascending 0 0 (tagsIn l)) where
+  module _ (t : b ≡ false) (f : Answer) (g : f ≡ ascendingAnswer 0 0 (tagsIn l)) where
     pub list-order : (f .number ≡ 0 → ⊥) → f ≡ listAnswer l
     unfolding listAnswer _orElse_ if_then_else_
     list-order h = rw (← e, t, ← g, ne-eqb (f .number) 0 h)
 
-    pub list-rest : (a : Answer) → f .number ≡ 0 → a ≡ unbarred 0 (tagsIn l) → a ≡ listAnswer l
+    pub list-rest : (a : Answer) → f .number ≡ 0 → a ≡ unbarredAnswer 0 (tagsIn l) → a ≡ listAnswer l
     unfolding listAnswer _orElse_ if_then_else_
     list-rest a h w = rw (← e, t, ← g, eq-eqb (f .number) 0 h) w

@@ -8,10 +8,10 @@ use lib.ListN.{length, length-append}
 use lib.Seq.{sets, length-sets}
 use Rattle.answer.specs.declared.Answer.{Answer}
 use Rattle.dataset.specs.Reading.{Reading, fault, read, _>>=_}
-use Rattle.mac.specs.Writer.{walked, Leaves, Walk}
+use Rattle.mac.specs.Inner.Writer.{walked, Leaves, Walk}
 use Rattle.mac.specs.declared.writer.Written.{Written}
 use Rattle.mac.specs.declared.writer.Written.the-variants as written
-use Rattle.mac.proofs.Runs.{sets-append}
+use Rattle.mac.proofs.OutputSteps.{sets-append}
 
 -- UN was found before
 unfoldable pub withFound : Bool → Written → Written

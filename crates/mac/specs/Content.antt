@@ -1,5 +1,5 @@
--- Signed content (a term of 01): "each listed element's tag and VR with its value", with no lengths of sequences and items and no offsets. "It is defined without
--- the stream."
+-- Signed content (a term of 01): "each listed element's tag and VR with its value", with no offsets and no lengths. "It is defined without the
+-- stream."
 -- Assumes nothing.
 use Prim.Native.Nat.{ℕ}
 use mathlib.Core.Bool.{Bool, true, false, _||_}
@@ -8,15 +8,16 @@ use mathlib.Core.Option.{Option, some}
 use mathlib.Core.Option as Opt
 use Rattle.dataset.specs.Bytes.{between}
 use Rattle.dataset.specs.Tree.{Span, Element, Elements, Items, tagOf}
-use Rattle.dataset.specs.Lookup.{find}
-use Rattle.mac.specs.TagList.{barred}
+use Rattle.dataset.specs.Lookup.{elementOf}
+use Rattle.mac.specs.TagList.{barred, unlessBarred}
 
 mutual
-  -- an element's tag and VR with its value; the VR of a sequence is SQ and that of fragments OB, so it is not said again. "A row of fragments and a value of bytes are never the same value, even when both are empty."
+  -- an element's tag and VR with its value; a sequence's VR is SQ, that of fragments OB. "A row of fragments and a value of bytes are never the
+  -- same value, even when both are empty."
   pub data SignedElement : Type 0 where
     value : (tag vr : ℕ) (bytes : List ℕ) → SignedElement
     sequence : (tag : ℕ) (items : SignedItems) → SignedElement
-    fragments : (tag : ℕ) (rows : List (List ℕ)) → SignedElement
+    fragments : (tag : ℕ) (row : List (List ℕ)) → SignedElement
 
   -- a row of elements
   pub data SignedElements : Type 0 where
@@ -33,13 +34,8 @@ unfoldable pub fragmentBytes : List Span → List ℕ → List (List ℕ)
 fragmentBytes [] d = []
 fragmentBytes (s ∷ rest) d = between d (s .start) (s .end) ∷ fragmentBytes rest d
 
--- a barred element is left out
-abbrev pub unlessBarred : (barred : Bool) → SignedElement → SignedElements → SignedElements
-unlessBarred true e rest = rest
-unlessBarred false e rest = SignedElements.and e rest
-
--- The content of an element of the data set d: "for SQ the value is the row of items, each the row of its elements that aren't barred, by the same rule; for
--- undefined OB it is the row of fragments; otherwise it is the value's bytes".
+-- The content of an element of the data set d: "for SQ the value is the row of items, each the row of its elements that aren't barred, by
+-- the same rule; for undefined OB it is the row of fragments; otherwise it is the value's bytes".
 unfoldable mutual
   pub signed : Element → List ℕ → SignedElement
   signed (Element.value at tag vr span) d = SignedElement.value tag vr (between d (span .start) (span .end))
@@ -48,7 +44,7 @@ unfoldable mutual
 
   pub signedElements : Elements → List ℕ → SignedElements
   signedElements Elements.none d = SignedElements.none
-  signedElements (Elements.and e rest) d = unlessBarred (barred (tagOf e)) (signed e d) (signedElements rest d)
+  signedElements (Elements.and e rest) d = unlessBarred (barred (tagOf e)) (SignedElements.and (signed e d)) (signedElements rest d)
 
   pub signedItems : Items → List ℕ → SignedItems
   signedItems Items.last d = SignedItems.last
@@ -60,17 +56,19 @@ joined Opt.none rest d = Opt.none
 joined (some e) Opt.none d = Opt.none
 joined (some e) (some rest) d = some (SignedElements.and (signed e d) rest)
 
--- "The signed content of a list in a well-formed data set that holds every listed tag is, in list order, each listed element's .."; none where a tag is absent
+-- "The signed content of a list in a well-formed data set that holds every listed tag is, in list order, each listed element's tag and VR
+-- with its value"; none where a tag is absent
 unfoldable pub content : (tags : List ℕ) → Elements → List ℕ → Option SignedElements
 content [] es d = some SignedElements.none
-content (tag ∷ tags) es d = joined (find tag es) (content tags es d) d
+content (tag ∷ tags) es d = joined (elementOf tag es) (content tags es d) d
 
--- "Something signed is in fragments when an undefined OB stands in the signed content, even one with no fragment." (In fragments is a term of 01.)
+-- In fragments, a term of 01: "Something signed is in fragments when an undefined OB stands in the signed content, even one with no
+-- fragment."
 unfoldable mutual
   pub inFragments : SignedElement → Bool
   inFragments (SignedElement.value tag vr bytes) = false
   inFragments (SignedElement.sequence tag items) = itemsInFragments items
-  inFragments (SignedElement.fragments tag rows) = true
+  inFragments (SignedElement.fragments tag row) = true
 
   pub someInFragments : SignedElements → Bool
   someInFragments SignedElements.none = false

@@ -1,12 +1,12 @@
+pub mod Bytes
 pub mod TagList
 pub mod Content
 pub mod Stream
+pub mod UN
 pub mod Modes
+pub mod Result
 pub mod ListMode
+pub mod Selection
 pub mod SignatureMode
--- for inner contracts only; a reader need not believe them
-pub mod Extents
-pub mod Writer
-pub mod Selecting
-pub mod Own
-pub mod Tail
+-- for inner contracts; a reader need not believe it
+pub mod Inner

@@ -1,4 +1,5 @@
--- List mode (a term of 01): one definition of the answer, for the stream and for the check.
+-- List mode (a term of 01): "the MAC stream for a bare tag list"; "List mode has no signature fields." One definition of the answer, for the
+-- stream and for the check.
 -- Assumes nothing.
 use Prim.Native.Nat.{ℕ}
 use mathlib.Core.List.{List}
@@ -6,27 +7,27 @@ use mathlib.Core.Option.{Option, some}
 use mathlib.Core.Option as Opt
 use lib.Dec.{ltb}
 use lib.ListN.{length}
-use Rattle.answer.specs.declared.Answer.{Answer}
 use Rattle.answer.specs.If.{if_then_else_}
+use Rattle.answer.specs.declared.Answer.{Answer}
 use Rattle.answer.specs.Answer.{accepted, refused, _orElse_}
-use Rattle.dataset.specs.Reading.{sizeLimit, dataSet, answerOf}
+use Rattle.dataset.specs.Reading.{sizeLimit, dataSet, answerOf, tree}
 use Rattle.mac.specs.TagList.{tagsIn, listAnswer}
 use Rattle.mac.specs.Content.{SignedElements, content}
 use Rattle.mac.specs.Stream.{listedStream}
-use Rattle.mac.specs.Modes.{tree, met, tail, Result}
+use Rattle.mac.specs.UN.{contentWritesUN}
+use Rattle.mac.specs.Modes.{answerFrom13}
+use Rattle.mac.specs.Result.{Result}
 
--- ---- a call
-
--- A call in list mode, for the stream or for the check: the list, the data set, the output room.
--- The expected digest is that of a check; a call for the stream has none.
+-- A call in list mode, for the stream or for the check: the list, the data set, the output room (a term of 01: "the length of the output
+-- or, in a check, of the work buffer"), and the expected digest, which a call for the stream has not.
 pub record Call : Type 0 where
   pub list : List ℕ
   pub set : List ℕ
   pub room : ℕ
   pub expected : Option (List ℕ)
 
--- "A call's signed content is that of its list in its data set." It means something only where the data set is well-formed and holds every listed tag; elsewhere a refusal comes
--- before 17.
+-- "A call's signed content is that of its list in its data set." It means something only where the data set is well-formed and holds every
+-- listed tag; elsewhere a refusal comes before 17.
 unfoldable pub contentOf : Call → Option SignedElements
 contentOf c = content (tagsIn (c .list)) (tree (c .set)) (c .set)
 
@@ -41,12 +42,13 @@ answer c =
     (if ltb sizeLimit (length (c .set)) then refused 1 0 else accepted 0)
     orElse listAnswer (c .list)
     orElse answerOf (dataSet (c .set))
-    orElse tail (tagsIn (c .list)) (tree (c .set)) (met (contentOf c)) (stream c) (c .room) (c .expected)
+    orElse answerFrom13 (tagsIn (c .list)) (tree (c .set)) (contentWritesUN (contentOf c)) (stream c) (c .room) (c .expected)
 
+-- what the call comes to
 abbrev pub result : Call → Result
 result c = record { answer = answer c; stream = stream c; expected = c .expected }
 
--- ---- what the functions promise
+-- ---- the calls that the functions make; what they promise of them is `Streamed` and `CheckedAs`
 
 -- list mode for the stream, into the output `out`
 abbrev pub streamCall : (list set out : List ℕ) → Call

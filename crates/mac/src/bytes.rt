@@ -1,6 +1,6 @@
 // Lists of bytes.
 ghost use mathlib.Core.Path.{_≡_};
-ghost use Rattle.mac.specs.Modes.{sameBytes};
+ghost use Rattle.mac.specs.Bytes.{sameBytes};
 
 // Whether two lists of bytes are the same.
 pub(crate) fn same_bytes(a: &[u8], b: &[u8]) -> bool

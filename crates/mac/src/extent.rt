@@ -1,7 +1,7 @@
 // Where a data set, or the items of a sequence, lie.
 use dataset::reading;
 ghost use mathlib.Core.Path.{_≡_};
-ghost use Rattle.mac.specs.Extents.{wholeOf};
+ghost use Rattle.mac.specs.Inner.Extent.{wholeOf};
 
 // From `from` up to `stop`, or to a delimiter before it; `left` levels of sequences may follow.
 pub(crate) struct Extent {

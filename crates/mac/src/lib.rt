@@ -6,13 +6,16 @@
 // tag_list                   10, 11, 12
 // listed                     13, 14, 15: the merge of list and data set
 // own                        the signature item's own elements
-// writer                     the walk that reads, finds UN, measures and writes
-// verdict                    same or differs
+// writer                     the walk that reads, finds UN, measures and writes: over keep (which elements) and output (bytes into it)
+// verdict                    9; same or differs
+// bytes, extent              lists of bytes; where a data set or items lie
 mod bytes;
 mod extent;
+mod keep;
 pub mod list_mode;
 mod listed;
 mod modes;
+mod output;
 mod own;
 mod seek;
 mod selection;

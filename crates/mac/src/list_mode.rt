@@ -1,37 +1,37 @@
 // List mode: the stream of a bare tag list, and the check of its digest.
 use crate::extent;
 use crate::modes;
-use crate::modes::After;
+use crate::modes::SignatureItem;
 use crate::verdict;
 use crate::verdict::Checked;
 use answer::Answer;
 use dataset::reading;
-ghost use Rattle.mac.specs.Modes.{Streamed, CheckedAs};
+ghost use Rattle.mac.specs.Result.{Streamed, CheckedAs};
 ghost use Rattle.mac.specs.ListMode.{streamCall, checkCall, result};
-ghost use Rattle.mac.specs.Tail.{listCall, IntoFor};
+ghost use Rattle.mac.specs.Inner.Calls.{listCall, CallAnswered};
 
 // The answer of a call, by whether its expected digest is not 32 bytes; where it is accepted the stream is written.
-fn list_into(list: &[u8], d: &[u8], bad: bool, out: &mut [u8]) -> Answer
-    ensures { λ r. ⌜ IntoFor (listCall (now (list .entry)) (now (d .entry)) (now (out .entry))) bad (now (out .entry)) r (now (out .exit)) ⌝ }
+fn list_call(list: &[u8], d: &[u8], bad_digest_length: bool, out: &mut [u8]) -> Answer
+    ensures { λ r. ⌜ CallAnswered (listCall (now (list .entry)) (now (d .entry)) (now (out .entry))) «bad_digest_length» (now (out .entry)) r (now (out .exit)) ⌝ }
 {
     if reading::SIZE_LIMIT < d.len() {
         return Answer::refused(1, 0);
     }
     let x = extent::whole(d.len());
-    modes::stream_into(list, d, x, After::Nothing, bad, out)
+    modes::answer_from_10(list, d, x, SignatureItem::Absent, bad_digest_length, out)
 }
 
 // The stream of a list in a data set, into the output.
 pub fn list_stream(list: &[u8], d: &[u8], out: &mut [u8]) -> Answer
     ensures { λ r. ⌜ Streamed (result (streamCall (now (list .entry)) (now (d .entry)) (now (out .entry)))) (now (out .entry)) r (now (out .exit)) ⌝ }
 {
-    list_into(list, d, false, out)
+    list_call(list, d, false, out)
 }
 
 // The check of the stream's digest: the stream is written into the work buffer.
 pub fn list_check(list: &[u8], d: &[u8], expected: &[u8], work: &mut [u8]) -> Checked
     ensures { λ r. ⌜ CheckedAs (result (checkCall (now (list .entry)) (now (d .entry)) (now (expected .entry)) (now (work .entry)))) (now (work .entry)) r (now (work .exit)) ⌝ }
 {
-    let answer = list_into(list, d, expected.len() != 32, work);
+    let answer = list_call(list, d, verdict::bad_digest_length(expected), work);
     verdict::check_of(answer, expected, work)
 }

@@ -1,17 +1,17 @@
 // The merge of a tag list with the elements of a data set: 13, 14, 15, and the stream of the listed elements.
 use crate::extent::Extent;
+use crate::keep::Keep;
 use crate::tag_list;
 use crate::writer;
-use crate::writer::Keep;
 use crate::writer::OneWritten;
 use answer::Answer;
 ghost use mathlib.Core.Path.{_≡_};
 ghost use Prim.Native.Nat.{_*_, _/_};
 ghost use lib.ListN.{length, drop};
 ghost use Rattle.answer.specs.Answer as Spec;
-ghost use Rattle.mac.specs.TagList.{tagsIn, ascending};
-ghost use Rattle.mac.specs.Extents.{Lies};
-ghost use Rattle.mac.specs.Writer.{ListWalk, wantedOf, stoppedOf, mergedOf, endedOf};
+ghost use Rattle.mac.specs.TagList.{tagsIn, ascendingAnswer};
+ghost use Rattle.mac.specs.Inner.Extent.{Lies};
+ghost use Rattle.mac.specs.Inner.Listed.{ListWalk, nextListed, stoppedOf, mergedOf, endedOf};
 
 // How far list and data set are merged: the index of the tag that is wanted next; and the first of 13, 14, 15, or the length of the
 // stream so far.
@@ -21,8 +21,8 @@ pub(crate) struct Listed {
 }
 
 // The element that is wanted next.
-fn wanted(list: &[u8], index: usize) -> Keep
-    ensures { λ r. ⌜ r ≡ wantedOf (tagsIn (drop (4 * index) (now (list .entry)))) ⌝ }
+fn next_listed(list: &[u8], index: usize) -> Keep
+    ensures { λ r. ⌜ r ≡ nextListed (tagsIn (drop (4 * index) (now (list .entry)))) ⌝ }
 {
     if list.len() / 4 <= index {
         return Keep::Nothing;
@@ -42,8 +42,8 @@ fn stopped(count: usize, number: u8, index: usize) -> Listed
 }
 
 // What is found after one element more, by its tag, whether it is UN, whether it holds UN, and where its stream ends.
-fn merged(list: &[u8], before: Listed, tag: u32, unknown: bool, holds: bool, to: usize) -> Listed
-    ensures { λ r. ⌜ r ≡ mergedOf (length (now (list .entry)) / 4) (tagsIn (drop (4 * before .index) (now (list .entry)))) before tag unknown holds to ⌝ }
+fn merged(list: &[u8], before: Listed, tag: u32, is_un: bool, holds_un: bool, to: usize) -> Listed
+    ensures { λ r. ⌜ r ≡ mergedOf (length (now (list .entry)) / 4) (tagsIn (drop (4 * before .index) (now (list .entry)))) before tag «is_un» «holds_un» to ⌝ }
 {
     let count = list.len() / 4;
     let index = before.index;
@@ -57,10 +57,10 @@ fn merged(list: &[u8], before: Listed, tag: u32, unknown: bool, holds: bool, to:
     if wanted < tag {
         return stopped(count, 13, index);
     }
-    if unknown {
+    if is_un {
         return stopped(count, 14, index);
     }
-    if holds {
+    if holds_un {
         return stopped(count, 15, index);
     }
     let answer = Answer::accepted(to);
@@ -84,7 +84,7 @@ fn ended(list: &[u8], before: Listed) -> Answer
 // One walk over the list and the elements of a data set: the data set's first fault, wherever it stands; or the first of 13, 14, 15;
 // or the stream, which is written, and its length.
 pub(crate) fn walk_list(list: &[u8], d: &[u8], x: Extent, out: &mut [u8]) -> Answer
-    requires { ⌜ (ascending 0 0 (tagsIn (now list)) ≡ Spec.accepted 0) × Lies (now d) x ⌝ }
+    requires { ⌜ (ascendingAnswer 0 0 (tagsIn (now list)) ≡ Spec.accepted 0) × Lies (now d) x ⌝ }
     ensures { λ r. ⌜ ListWalk (now (list .entry)) (now (d .entry)) x r (now (out .entry)) (now (out .exit)) ⌝ }
 {
     let mut at = x.from;
@@ -92,19 +92,19 @@ pub(crate) fn walk_list(list: &[u8], d: &[u8], x: Extent, out: &mut [u8]) -> Ans
     let answer = Answer::accepted(0);
     let mut found = Listed { index: 0, answer };
     loop {
-        let keep = wanted(list, found.index);
+        let keep = next_listed(list, found.index);
         let to = found.answer.length;
         match writer::write_one(d, x.delimited, x.left, x.stop, at, least, keep, out, to) {
             OneWritten::Refused(fault) => return fault,
             OneWritten::End(_) => return ended(list, found),
             OneWritten::Element {
                 tag,
-                unknown,
-                holds_unknown,
+                is_un,
+                holds_un,
                 next,
                 to: past,
             } => {
-                found = merged(list, found, tag, unknown, holds_unknown, past);
+                found = merged(list, found, tag, is_un, holds_un, past);
                 at = next;
                 least = tag as u64 + 1;
             }

@@ -1,8 +1,8 @@
 // The signature item's own elements, which follow the listed ones.
 use crate::extent::Extent;
+use crate::keep::Keep;
 use crate::tag_list;
 use crate::writer;
-use crate::writer::Keep;
 use crate::writer::OneWritten;
 use crate::writer::Written;
 ghost use mathlib.Core.Path.{_≡_};
@@ -11,13 +11,13 @@ ghost use Prim.Native.Nat.{_+_, _≤_};
 ghost use lib.ListN.{length};
 ghost use Rattle.mac.specs.TagList.{barred};
 ghost use Rattle.mac.specs.SignatureMode.{named};
-ghost use Rattle.mac.specs.Writer.{walked, Walk};
-ghost use Rattle.mac.specs.Selecting.{Lies, elementsIn};
-ghost use Rattle.mac.specs.Own.{ownStream, noUnknown, ownKeep};
+ghost use Rattle.mac.specs.Inner.Extent.{Lies};
+ghost use Rattle.mac.specs.Inner.Own.{OwnWalk, ownKeep};
 
 const CERTIFICATE_OF_SIGNER: u32 = 0x04000115;
 
-const SIGNATURE: u32 = 0x04000120;
+// "Signature" in the data dictionary
+const SIGNATURE_VALUE: u32 = 0x04000120;
 
 const CERTIFIED_TIMESTAMP_TYPE: u32 = 0x04000305;
 
@@ -30,7 +30,7 @@ fn is_named(tag: u32) -> bool
     if tag == CERTIFICATE_OF_SIGNER {
         return true;
     }
-    if tag == SIGNATURE {
+    if tag == SIGNATURE_VALUE {
         return true;
     }
     if tag == CERTIFIED_TIMESTAMP_TYPE {
@@ -40,12 +40,10 @@ fn is_named(tag: u32) -> bool
 }
 
 // Whether an element is left out, by its tag, whether it is UN and whether it holds UN.
-fn is_left_out(tag: u32, unknown: bool, holds: bool) -> bool
-    ensures { λ r. ⌜ r ≡ (named tag || (barred tag || (unknown || holds))) ⌝ }
+fn is_left_out(tag: u32, is_un: bool, holds_un: bool) -> bool
+    ensures { λ r. ⌜ r ≡ (named tag || (barred tag || («is_un» || «holds_un»))) ⌝ }
 {
-    let barred = tag_list::is_barred(tag);
-    let any_unknown = writer::either(unknown, holds);
-    writer::either(is_named(tag), writer::either(barred, any_unknown))
+    is_named(tag) | (tag_list::is_barred(tag) | (is_un | holds_un))
 }
 
 // What the writing walk keeps of the element that the first walk saw.
@@ -57,12 +55,12 @@ fn own_keep(seen: OneWritten) -> Keep
         OneWritten::End(_) => Keep::Nothing,
         OneWritten::Element {
             tag,
-            unknown,
-            holds_unknown,
+            is_un,
+            holds_un,
             next: _,
             to: _,
         } => {
-            if is_left_out(tag, unknown, holds_unknown) {
+            if is_left_out(tag, is_un, holds_un) {
                 return Keep::Nothing;
             }
             Keep::Only(tag)
@@ -74,7 +72,7 @@ fn own_keep(seen: OneWritten) -> Keep
 // stands in it.
 pub(crate) fn write_own(d: &[u8], x: Extent, out: &mut [u8], onto: usize) -> Written
     requires { ⌜ Lies (now d) x × (onto ≤ x .from + length (now d)) ⌝ }
-    ensures { λ r. ⌜ Walk (walked noUnknown ownStream) ownStream (elementsIn (now (d .entry)) x) (now (d .entry)) onto r (now (out .entry)) (now (out .exit)) ⌝ }
+    ensures { λ r. ⌜ OwnWalk (now (d .entry)) x onto r (now (out .entry)) (now (out .exit)) ⌝ }
 {
     let mut at = x.from;
     let mut least: u64 = 0;
@@ -96,14 +94,14 @@ pub(crate) fn write_own(d: &[u8], x: Extent, out: &mut [u8], onto: usize) -> Wri
         match writer::write_one(d, x.delimited, x.left, x.stop, at, least, keep, out, to) {
             OneWritten::Refused(fault) => return Written::Refused(fault),
             OneWritten::End(next) => return Written::Past {
-                unknown: false,
+                holds_un: false,
                 next,
                 to,
             },
             OneWritten::Element {
                 tag,
-                unknown: _,
-                holds_unknown: _,
+                is_un: _,
+                holds_un: _,
                 next,
                 to: past,
             } => {

@@ -6,7 +6,8 @@ use dataset::header::ElementHeader;
 use dataset::reading;
 use dataset::reading::OneOutcome;
 ghost use mathlib.Core.Path.{_≡_};
-ghost use Rattle.mac.specs.Selecting.{Lies, elementsIn, isThere, placeBy, placeOn, SoughtIn};
+ghost use Rattle.mac.specs.Inner.Extent.{Lies, elementsIn};
+ghost use Rattle.mac.specs.Inner.Seek.{isThere, placeBy, placeOn, SoughtIn};
 
 // What stands under a tag.
 pub(crate) enum Place {

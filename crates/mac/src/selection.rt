@@ -16,8 +16,10 @@ ghost use lib.ListN.{length};
 ghost use Rattle.dataset.specs.Vr.{US};
 ghost use mathlib.Core.Option.{some};
 ghost use Rattle.answer.specs.Answer as Spec;
-ghost use Rattle.mac.specs.SignatureMode.{badTransferSyntax, SHA256, onlySpaces, isTerm};
-ghost use Rattle.mac.specs.Selecting.{Lies, elementsIn, itemsIn, PlaceLies, HasId, WantedLies, IsWanted, ChosenIn, ItemOf, LessNul, BadSyntax, BadAlgorithm, ListOf, Stands, SelectOf, SelectedIn};
+ghost use Rattle.mac.specs.Selection.{badTransferSyntax, SHA256, onlySpaces, isTerm};
+ghost use Rattle.mac.specs.Inner.Extent.{Lies, elementsIn, itemsIn};
+ghost use Rattle.mac.specs.Inner.Seek.{PlaceLies, Located};
+ghost use Rattle.mac.specs.Inner.Selection.{SameMacId, KeyLies, TestsKey, FoundItemIn, FoundItemUnder, LessNul, BadSyntax, BadAlgorithm, ListOf, SelectOf, SelectedIn};
 ghost use Rattle.mac.specs.declared.selection.Selection.the-variants as selection;
 
 const MAC_ID_NUMBER: u32 = 0x04000005;
@@ -32,15 +34,15 @@ const MAC_PARAMETERS_SEQUENCE: u32 = 0x4FFE0001;
 
 const DIGITAL_SIGNATURES_SEQUENCE: u32 = 0xFFFAFFFA;
 
-// Which item of a sequence is meant: by its number from 0, or by its MAC ID Number, the bytes of the data set from start to end.
-pub(crate) enum Wanted {
-    Index(u64),
-    Id { start: usize, end: usize },
+// By what an item of a sequence is found: its number from 0, or its MAC ID Number, the bytes of the data set from start to end.
+pub(crate) enum ItemKey {
+    Number(u64),
+    MacId { start: usize, end: usize },
 }
 
 // No such item; or the item's data set, and what stands in it under (0400,0005) and (0400,0020).
-pub(crate) enum Chosen {
-    Nothing,
+pub(crate) enum FoundItem {
+    Absent,
     Item {
         inside: Extent,
         id: Place,
@@ -59,7 +61,7 @@ pub(crate) enum Selection {
 }
 
 // Whether an element of this VR and extent is a MAC ID Number.
-fn is_id(vr: u16, start: usize, end: usize) -> bool
+fn is_mac_id(vr: u16, start: usize, end: usize) -> bool
     requires { ⌜ start ≤ end ⌝ }
     ensures { λ r. ⌜ r ≡ (eqb vr US && eqb (end - start) 2) ⌝ }
 {
@@ -70,9 +72,9 @@ fn is_id(vr: u16, start: usize, end: usize) -> bool
 }
 
 // Whether a MAC ID Number stands in this place, with the same bytes as from start to end.
-fn has_id(d: &[u8], p: Place, start: usize, end: usize) -> bool
+fn same_mac_id(d: &[u8], p: Place, start: usize, end: usize) -> bool
     requires { ⌜ PlaceLies (now d) p × (start ≤ end) × (end ≤ length (now d)) ⌝ }
-    ensures { λ r. ⌜ HasId (now (d .entry)) p start end r ⌝ }
+    ensures { λ r. ⌜ SameMacId (now (d .entry)) p start end r ⌝ }
 {
     let Place::Value {
         vr,
@@ -82,34 +84,34 @@ fn has_id(d: &[u8], p: Place, start: usize, end: usize) -> bool
     else {
         return false;
     };
-    if !is_id(vr, from, to) {
+    if !is_mac_id(vr, from, to) {
         return false;
     }
     bytes::same_bytes(&d[from..to], &d[start..end])
 }
 
-// Whether the item with this number from 0, whose MAC ID Number stands in this place, is meant.
-fn is_wanted(d: &[u8], wanted: Wanted, index: u64, id: Place) -> bool
-    requires { ⌜ WantedLies (now d) wanted × PlaceLies (now d) id ⌝ }
-    ensures { λ r. ⌜ IsWanted (now (d .entry)) wanted index id r ⌝ }
+// Whether the item with this number from 0, whose MAC ID Number stands in this place, has the key.
+fn has_key(d: &[u8], key: ItemKey, index: u64, id: Place) -> bool
+    requires { ⌜ KeyLies (now d) key × PlaceLies (now d) id ⌝ }
+    ensures { λ r. ⌜ TestsKey (now (d .entry)) key index id r ⌝ }
 {
-    match wanted {
-        Wanted::Index(number) => index == number,
-        Wanted::Id { start, end } => has_id(d, id, start, end),
+    match key {
+        ItemKey::Number(number) => index == number,
+        ItemKey::MacId { start, end } => same_mac_id(d, id, start, end),
     }
 }
 
-// The first item that is meant.
-fn choose(d: &[u8], x: Extent, wanted: Wanted) -> Chosen
-    requires { ⌜ Lies (now d) x × (0 < x .left) × WantedLies (now d) wanted ⌝ }
-    ensures { λ r. ⌜ ChosenIn (now (d .entry)) wanted 0 (itemsIn (now (d .entry)) x) r ⌝ }
+// The first item with the key. A fault cannot occur: `select` has read the whole data set.
+fn find_item(d: &[u8], x: Extent, key: ItemKey) -> FoundItem
+    requires { ⌜ Lies (now d) x × (0 < x .left) × KeyLies (now d) key ⌝ }
+    ensures { λ r. ⌜ FoundItemIn (now (d .entry)) key 0 (itemsIn (now (d .entry)) x) r ⌝ }
 {
     let mut at = x.from;
     let mut index: u64 = 0;
     loop {
         match header::item_header(d, true, x.delimited, x.stop, at) {
-            ItemHeader::Refused(_) => return Chosen::Nothing,
-            ItemHeader::End(_) => return Chosen::Nothing,
+            ItemHeader::Refused(_) => return FoundItem::Absent,
+            ItemHeader::End(_) => return FoundItem::Absent,
             ItemHeader::Item {
                 start,
                 end,
@@ -122,14 +124,14 @@ fn choose(d: &[u8], x: Extent, wanted: Wanted) -> Chosen
                     from: start,
                 };
                 match seek::seek(d, inside, MAC_ID_NUMBER, DATA_ELEMENTS_SIGNED) {
-                    Sought::Refused(_) => return Chosen::Nothing,
+                    Sought::Refused(_) => return FoundItem::Absent,
                     Sought::Past {
                         first: id,
                         second: list,
                         next,
                     } => {
-                        if is_wanted(d, wanted, index, id) {
-                            return Chosen::Item { inside, id, list };
+                        if has_key(d, key, index, id) {
+                            return FoundItem::Item { inside, id, list };
                         }
                         at = next;
                         index += 1;
@@ -140,15 +142,15 @@ fn choose(d: &[u8], x: Extent, wanted: Wanted) -> Chosen
     }
 }
 
-// The first item that is meant, of what stands under a tag.
-fn item_of(d: &[u8], p: Place, wanted: Wanted) -> Chosen
-    requires { ⌜ PlaceLies (now d) p × WantedLies (now d) wanted ⌝ }
-    ensures { λ r. ⌜ ItemOf (now (d .entry)) p wanted r ⌝ }
+// The first item with the key, of what stands under a tag.
+fn find_item_under(d: &[u8], p: Place, key: ItemKey) -> FoundItem
+    requires { ⌜ PlaceLies (now d) p × KeyLies (now d) key ⌝ }
+    ensures { λ r. ⌜ FoundItemUnder (now (d .entry)) p key r ⌝ }
 {
     let Place::Items(x) = p else {
-        return Chosen::Nothing;
+        return FoundItem::Absent;
     };
-    choose(d, x, wanted)
+    find_item(d, x, key)
 }
 
 // How many bytes a value has, less one trailing NUL.
@@ -165,7 +167,7 @@ fn less_nul(value: &[u8]) -> usize
     n
 }
 
-// 21, of a value.
+// 21: whether a value is empty, not the caller's UID, or a forbidden one.
 fn bad_uid(uid: &[u8], value: &[u8]) -> bool
     ensures { λ r. ⌜ r ≡ badTransferSyntax (now (uid .entry)) (some (now (value .entry))) ⌝ }
 {
@@ -261,6 +263,7 @@ fn list_of(uid: &[u8], d: &[u8], item: Extent, parameters: Extent, list: Place) 
         next: _,
     } = fields
     else {
+        // cannot occur: `select` has read the whole data set
         return refused(21);
     };
     if bad_syntax(uid, d, syntax) {
@@ -280,11 +283,11 @@ fn list_of(uid: &[u8], d: &[u8], item: Extent, parameters: Extent, list: Place) 
 
 // 18 to 23, by what stands under the tags of the two sequences.
 fn select_from(uid: &[u8], number: u64, d: &[u8], parameters: Place, signatures: Place) -> Selection
-    requires { ⌜ Stands (now d) parameters × Stands (now d) signatures ⌝ }
+    requires { ⌜ Located (now d) parameters × Located (now d) signatures ⌝ }
     ensures { λ r. ⌜ SelectOf (now (uid .entry)) number (now (d .entry)) parameters signatures r ⌝ }
 {
-    let signature = item_of(d, signatures, Wanted::Index(number));
-    let Chosen::Item {
+    let signature = find_item_under(d, signatures, ItemKey::Number(number));
+    let FoundItem::Item {
         inside: item,
         id,
         list: _,
@@ -295,15 +298,15 @@ fn select_from(uid: &[u8], number: u64, d: &[u8], parameters: Place, signatures:
     let Place::Value { vr, start, end } = id else {
         return refused(19);
     };
-    if !is_id(vr, start, end) {
+    if !is_mac_id(vr, start, end) {
         return refused(19);
     }
-    let chosen = item_of(d, parameters, Wanted::Id { start, end });
-    let Chosen::Item {
+    let found = find_item_under(d, parameters, ItemKey::MacId { start, end });
+    let FoundItem::Item {
         inside,
         id: _,
         list,
-    } = chosen
+    } = found
     else {
         return refused(20);
     };

@@ -1,7 +1,7 @@
 // Signature mode: the stream of a signature in the data set, and the check of its digest.
 use crate::extent;
 use crate::modes;
-use crate::modes::After;
+use crate::modes::SignatureItem;
 use crate::selection;
 use crate::selection::Selection;
 use crate::verdict;
@@ -9,9 +9,10 @@ use crate::verdict::Checked;
 use answer::Answer;
 use dataset::reading;
 ghost use mathlib.Core.Path.{_≡_};
-ghost use Rattle.mac.specs.Modes.{Streamed, CheckedAs};
-ghost use Rattle.mac.specs.SignatureMode.{numberOf, streamCall, checkCall, result};
-ghost use Rattle.mac.specs.Tail.{signatureCall, IntoFor};
+ghost use Rattle.mac.specs.Result.{Streamed, CheckedAs};
+ghost use Rattle.mac.specs.Selection.{numberOf};
+ghost use Rattle.mac.specs.SignatureMode.{streamCall, checkCall, result};
+ghost use Rattle.mac.specs.Inner.Calls.{signatureCall, CallAnswered};
 
 // Which signature: none is named, or by its number from 0.
 pub enum Signature {
@@ -30,8 +31,14 @@ fn number_of(which: Signature) -> u64
 }
 
 // The answer of a call, by whether its expected digest is not 32 bytes; where it is accepted the stream is written.
-fn signature_into(uid: &[u8], which: Signature, d: &[u8], bad: bool, out: &mut [u8]) -> Answer
-    ensures { λ r. ⌜ IntoFor (signatureCall (now (uid .entry)) which (now (d .entry)) (now (out .entry))) bad (now (out .entry)) r (now (out .exit)) ⌝ }
+fn signature_call(
+    uid: &[u8],
+    which: Signature,
+    d: &[u8],
+    bad_digest_length: bool,
+    out: &mut [u8],
+) -> Answer
+    ensures { λ r. ⌜ CallAnswered (signatureCall (now (uid .entry)) which (now (d .entry)) (now (out .entry))) «bad_digest_length» (now (out .entry)) r (now (out .exit)) ⌝ }
 {
     if reading::SIZE_LIMIT < d.len() {
         return Answer::refused(1, 0);
@@ -40,7 +47,8 @@ fn signature_into(uid: &[u8], which: Signature, d: &[u8], bad: bool, out: &mut [
     match selection::select(uid, number_of(which), d, x) {
         Selection::Refused(answer) => answer,
         Selection::Selected { start, end, item } => {
-            modes::stream_into(&d[start..end], d, x, After::Item(item), bad, out)
+            let own = SignatureItem::Item(item);
+            modes::answer_from_10(&d[start..end], d, x, own, bad_digest_length, out)
         }
     }
 }
@@ -49,7 +57,7 @@ fn signature_into(uid: &[u8], which: Signature, d: &[u8], bad: bool, out: &mut [
 pub fn signature_stream(uid: &[u8], which: Signature, d: &[u8], out: &mut [u8]) -> Answer
     ensures { λ r. ⌜ Streamed (result (streamCall (now (uid .entry)) which (now (d .entry)) (now (out .entry)))) (now (out .entry)) r (now (out .exit)) ⌝ }
 {
-    signature_into(uid, which, d, false, out)
+    signature_call(uid, which, d, false, out)
 }
 
 // The check of the stream's digest: the stream is written into the work buffer.
@@ -62,6 +70,6 @@ pub fn signature_check(
 ) -> Checked
     ensures { λ r. ⌜ CheckedAs (result (checkCall (now (uid .entry)) which (now (d .entry)) (now (expected .entry)) (now (work .entry)))) (now (work .entry)) r (now (work .exit)) ⌝ }
 {
-    let answer = signature_into(uid, which, d, expected.len() != 32, work);
+    let answer = signature_call(uid, which, d, verdict::bad_digest_length(expected), work);
     verdict::check_of(answer, expected, work)
 }

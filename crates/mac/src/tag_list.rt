@@ -4,7 +4,7 @@ ghost use mathlib.Core.Path.{_≡_};
 ghost use Prim.Native.Nat.{_+_, _*_, _<_, _≤_};
 ghost use lib.ListN.{length};
 ghost use Rattle.dataset.specs.Bytes.{num16, tagAt};
-ghost use Rattle.mac.specs.TagList.{barred, tagsIn, badSize, ascending, unbarred, listAnswer};
+ghost use Rattle.mac.specs.TagList.{barred, tagsIn, badSize, ascendingAnswer, unbarredAnswer, listAnswer};
 
 // As dataset::bytes has it: those functions require their place inside the data, so they are not public.
 fn wide(b: u8) -> u32
@@ -70,7 +70,7 @@ fn bad_size(bytes: usize) -> bool
 
 // The first tag that is not above the one before it.
 fn order_answer(list: &[u8]) -> Answer
-    ensures { λ r. ⌜ r ≡ ascending 0 0 (tagsIn (now (list .entry))) ⌝ }
+    ensures { λ r. ⌜ r ≡ ascendingAnswer 0 0 (tagsIn (now (list .entry))) ⌝ }
 {
     let count = list.len() / 4;
     let mut index = 0;
@@ -88,7 +88,7 @@ fn order_answer(list: &[u8]) -> Answer
 
 // The first barred tag.
 fn barred_answer(list: &[u8]) -> Answer
-    ensures { λ r. ⌜ r ≡ unbarred 0 (tagsIn (now (list .entry))) ⌝ }
+    ensures { λ r. ⌜ r ≡ unbarredAnswer 0 (tagsIn (now (list .entry))) ⌝ }
 {
     let count = list.len() / 4;
     let mut index = 0;

@@ -6,8 +6,9 @@ ghost use mathlib.Core.Path.{_≡_};
 ghost use mathlib.Core.Option.{some};
 ghost use Prim.Native.Nat.{_≤_};
 ghost use lib.ListN.{length};
-ghost use Rattle.mac.specs.Modes.{compared};
-ghost use Rattle.mac.specs.Tail.{CheckOf};
+ghost use Rattle.mac.specs.Modes.{badDigestLength};
+ghost use Rattle.mac.specs.Result.{compared};
+ghost use Rattle.mac.specs.Inner.Verdict.{CheckOf};
 
 // Whether the digest of the stream is the expected one; a refused check says neither.
 pub enum Verdict {
@@ -20,6 +21,13 @@ pub enum Verdict {
 pub struct Checked {
     pub answer: Answer,
     pub verdict: Verdict,
+}
+
+// 9: whether an expected digest has not the length of a digest.
+pub(crate) fn bad_digest_length(expected: &[u8]) -> bool
+    ensures { λ r. ⌜ r ≡ badDigestLength (some (now (expected .entry))) ⌝ }
+{
+    expected.len() != 32
 }
 
 // What a check says of the digest of its stream.

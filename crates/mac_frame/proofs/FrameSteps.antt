@@ -16,7 +16,7 @@ use Rattle.answer.specs.declared.Answer.{Answer}
 use Rattle.answer.specs.If.{if_then_else_}
 use Rattle.answer.specs.Answer.{refused}
 use Rattle.dataset.specs.Bytes.{between}
-use Rattle.mac.specs.Modes.{isAccepted, outputAfter}
+use Rattle.mac.specs.Result.{isAccepted, outputAfter}
 use Rattle.mac.specs.ListMode.{Call, answer, stream, streamCall, result}
 use Rattle.mac_frame.specs.Text.{line, hexLines}
 use Rattle.mac_frame.specs.Frame.{inputLimit, outputRoom, big32, frameAt, frameCall, report, printedBy, printed, Printed}
@@ -132,7 +132,7 @@ within-room c a e n =
     let z : answer c .number ≡ 0 = ap (λ (x : Answer). x .number) (sym e) ∙ n in
     let t : isAccepted (result c) ≡ true = eq-eqb (answer c .number) 0 z in
     let l : a .length ≡ length (stream c) = ap (λ (x : Answer). x .length) (e ∙ answer-accepted c t) in
-    let r : length (stream c) ≤ c .room = ltb-false (c .room) (length (stream c)) (accepts c z .tail .fits) in
+    let r : length (stream c) ≤ c .room = ltb-false (c .room) (length (stream c)) (accepts c z .from13 .fits) in
     omega arith
 
 -- the call of a frame is that of the code, with its output of 65,536 bytes

@@ -16,7 +16,7 @@ use Rattle.answer.specs.If.{if_then_else_}
 use Rattle.answer.specs.declared.Answer.{Answer}
 use Rattle.mac_frame.specs.Text.{space, newline, digit, decimalBy, decimal, word, line, hex, isEmpty, lineEnd, hexFrom, hexLines}
 use Rattle.mac_frame.specs.Wrote.{Wrote}
-use Rattle.mac.proofs.Runs.{sets-append}
+use Rattle.mac.proofs.OutputSteps.{sets-append}
 
 -- one piece after another
 pub wrote-then : (text mid after : List ℕ) (at next r : ℕ) (xs ys : List ℕ) → Wrote text at xs next mid → Wrote mid next ys r after → Wrote text at (xs ++ ys) r after

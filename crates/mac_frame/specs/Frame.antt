@@ -11,7 +11,7 @@ use lib.Seq.{sets}
 use Rattle.answer.specs.If.{if_then_else_}
 use Rattle.answer.specs.Answer.{refused}
 use Rattle.dataset.specs.Bytes.{between}
-use Rattle.mac.specs.Modes.{isAccepted}
+use Rattle.mac.specs.Result.{isAccepted}
 use Rattle.mac.specs.ListMode.{Call, answer, stream, result}
 use Rattle.mac_frame.specs.Text.{line, hexLines}
 use Rattle.mac_frame.specs.declared.frame.Frame.{Frame}

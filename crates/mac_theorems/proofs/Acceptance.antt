@@ -10,15 +10,16 @@ use Rattle.answer.specs.declared.Answer.{Answer}
 use Rattle.answer.specs.Answer.{accepted, _orElse_}
 use Rattle.answer.proofs.Chain.{or-else-second, both-accepted}
 use Rattle.dataset.specs.Tree.{Elements}
-use Rattle.dataset.specs.Reading.{Reading, sizeLimit, dataSet, answerOf}
+use Rattle.dataset.specs.Reading.{Reading, sizeLimit, dataSet, answerOf, treeOf, tree}
 use Rattle.dataset.proofs.Theorems.{faults-inside}
 use Rattle.dataset.proofs.Guarantees.{data-set-read}
 use Rattle.mac.specs.TagList.{tagsIn, listAnswer}
-use Rattle.mac.specs.Modes.{treeOf, tree, met, tail}
+use Rattle.mac.specs.UN.{contentWritesUN}
+use Rattle.mac.specs.Modes.{answerFrom13}
 use Rattle.mac.specs.ListMode.{Call, contentOf, stream, answer}
 use Rattle.mac_theorems.specs.Injectivity.{Accepted}
 use Rattle.mac.proofs.ListedElements.{never-met}
-use Rattle.mac.proofs.TailAnswers.{TailAccepts, tail-accepts, tail-accepted}
+use Rattle.mac.proofs.From13Answers.{TailAccepts, tail-accepts, tail-accepted}
 
 -- a data set that the reading does not refuse
 pub record IsRead (d : List ℕ) : Type 0 where
@@ -36,7 +37,7 @@ is-read d = go (dataSet d) refl
 pub record Accepts (c : Call) : Type 0 where
   pub list : listAnswer (c .list) .number ≡ 0
   pub read : IsRead (c .set)
-  pub tail : TailAccepts (tagsIn (c .list)) (tree (c .set)) (stream c) (c .room) (c .expected)
+  pub from13 : TailAccepts (tagsIn (c .list)) (tree (c .set)) (stream c) (c .room) (c .expected)
 
 pub accepts : (c : Call) → answer c .number ≡ 0 → Accepts c
 unfolding answer
@@ -47,12 +48,12 @@ accepts c h =
     record {
       list = list .first;
       read = is-read (c .set) (reading .first);
-      tail = tail-accepts (tagsIn (c .list)) (tree (c .set)) (met (contentOf c)) (stream c) (c .room) (c .expected) (reading .second);
+      from13 = tail-accepts (tagsIn (c .list)) (tree (c .set)) (contentWritesUN (contentOf c)) (stream c) (c .room) (c .expected) (reading .second);
     }
 
 -- the answer of a call whose data set is read
 pub answer-read : (c : Call) → IsRead (c .set)
-    → answer c ≡ (listAnswer (c .list) orElse tail (tagsIn (c .list)) (tree (c .set)) (met (contentOf c)) (stream c) (c .room) (c .expected))
+    → answer c ≡ (listAnswer (c .list) orElse answerFrom13 (tagsIn (c .list)) (tree (c .set)) (contentWritesUN (contentOf c)) (stream c) (c .room) (c .expected))
 unfolding answer if_then_else_
 answer-read c r =
     let d = data-set-read (c .set) (tree (c .set)) (r .next) (r .is) in
@@ -66,7 +67,7 @@ unfolding contentOf
 answer-accepts c a =
     answer-read c (a .read)
     ∙ or-else-second _ _ (a .list)
-    ∙ tail-accepted (tagsIn (c .list)) (tree (c .set)) (met (contentOf c)) (stream c) (c .room) (c .expected) (a .tail) (never-met (tagsIn (c .list)) (tree (c .set)) (c .set) (a .tail .found))
+    ∙ tail-accepted (tagsIn (c .list)) (tree (c .set)) (contentWritesUN (contentOf c)) (stream c) (c .room) (c .expected) (a .from13) (never-met (tagsIn (c .list)) (tree (c .set)) (c .set) (a .from13 .found))
 
 -- an accepted call's answer
 pub answer-accepted : (c : Call) → Accepted c → answer c ≡ accepted (length (stream c))

@@ -15,13 +15,14 @@ use Rattle.answer.specs.If.{if_then_else_}
 use Rattle.answer.specs.Answer.{accepted, refused, _orElse_}
 use Rattle.answer.proofs.Chain.{or-else-holds}
 use Rattle.dataset.specs.Tree.{Element, Elements}
-use Rattle.dataset.specs.Reading.{Reading, fault, read, explicit, elementsAt, sizeLimit, levels, dataSet, answerOf}
-use Rattle.dataset.specs.Lookup.{find}
+use Rattle.dataset.specs.Reading.{Reading, fault, read, explicit, elementsAt, sizeLimit, levels, dataSet, answerOf, tree}
+use Rattle.dataset.specs.Lookup.{elementOf}
 use Rattle.dataset.proofs.Bounded.{explicit-bounded}
 use Rattle.dataset.proofs.Unfolding.{Within, elements-within}
 use Rattle.dataset.proofs.Steps.{data-set-is, data-set-over}
-use Rattle.mac.specs.TagList.{tagsIn, barred, ascending, unbarred, badSize, listAnswer}
-use Rattle.mac.specs.Modes.{tree, isUN, holdsUN, elementAnswer, tagsAnswer, badDigest, met, tail}
+use Rattle.mac.specs.TagList.{tagsIn, barred, ascendingAnswer, unbarredAnswer, badSize, listAnswer}
+use Rattle.mac.specs.UN.{isUN, holdsUN, contentWritesUN}
+use Rattle.mac.specs.Modes.{elementAnswer, tagsAnswer, badDigestLength, answerFrom13}
 use Rattle.mac.specs.ListMode.{Call, contentOf, stream, answer}
 use Rattle.mac.proofs.ListedElements.{never-met}
 use Rattle.mac_theorems.specs.Theorems.{Positioned}
@@ -94,14 +95,14 @@ module _ (size count : ℕ) (Short : Type 0) where
   test-regular : (t : Bool) (number : ℕ) → number < 11 → Regular size count Short (if t then refused number 0 else accepted 0)
   test-regular t number h = if-regular t _ _ (plain-regular number (λ z. omega arith) (λ l u. omega arith) (λ z. absurd (omega arith))) (accepted-regular 0)
 
-  ascending-regular : (index least : ℕ) (tags : List ℕ) → index + length tags ≤ count → Regular size count Short (ascending index least tags)
-  unfolding ascending
+  ascending-regular : (index least : ℕ) (tags : List ℕ) → index + length tags ≤ count → Regular size count Short (ascendingAnswer index least tags)
+  unfolding ascendingAnswer
   ascending-regular index least [] h = accepted-regular 0
   ascending-regular index least (tag ∷ tags) h =
       if-regular (ltb tag least) _ _ (index-regular 11 index (omega arith) (omega arith) (omega arith)) (ascending-regular (index + 1) (tag + 1) tags (omega arith))
 
-  unbarred-regular : (index : ℕ) (tags : List ℕ) → index + length tags ≤ count → Regular size count Short (unbarred index tags)
-  unfolding unbarred
+  unbarred-regular : (index : ℕ) (tags : List ℕ) → index + length tags ≤ count → Regular size count Short (unbarredAnswer index tags)
+  unfolding unbarredAnswer
   unbarred-regular index [] h = accepted-regular 0
   unbarred-regular index (tag ∷ tags) h =
       if-regular (barred tag) _ _ (index-regular 12 index (omega arith) (omega arith) (omega arith)) (unbarred-regular (index + 1) tags (omega arith))
@@ -123,7 +124,7 @@ module _ (size count : ℕ) (Short : Type 0) where
   unfolding tagsAnswer
   tags-regular index [] es h = accepted-regular 0
   tags-regular index (tag ∷ tags) es h =
-      or-else-regular _ _ (element-regular index (find tag es) (omega arith)) λ z. tags-regular (index + 1) tags es (omega arith)
+      or-else-regular _ _ (element-regular index (elementOf tag es) (omega arith)) λ z. tags-regular (index + 1) tags es (omega arith)
 
   room-regular : (room need : ℕ) → (room < need → Short) → Regular size count Short (if ltb room need then refused 16 0 else accepted 0)
   unfolding if_then_else_
@@ -141,11 +142,11 @@ module _ (size count : ℕ) (Short : Type 0) where
   -- the end of the order; 17's test is false where none of 13, 14 and 15 holds
   pub tail-regular : (tags : List ℕ) (es : Elements) (metUN : Bool) (stream : List ℕ) (room : ℕ) (expected : Option (List ℕ))
       → length tags ≤ count → (tagsAnswer 0 tags es .number ≡ 0 → metUN ≡ false) → (room < length stream → Short)
-      → Regular size count Short (tail tags es metUN stream room expected)
-  unfolding tail
+      → Regular size count Short (answerFrom13 tags es metUN stream room expected)
+  unfolding answerFrom13
   tail-regular tags es metUN stream room expected h unmet short =
       or-else-regular (tagsAnswer 0 tags es) _ (tags-regular 0 tags es (omega arith)) λ found.
-      or-else-regular (if badDigest expected then refused 9 0 else accepted 0) _ (test-regular (badDigest expected) 9 (omega arith)) λ z.
+      or-else-regular (if badDigestLength expected then refused 9 0 else accepted 0) _ (test-regular (badDigestLength expected) 9 (omega arith)) λ z.
       or-else-regular (if ltb room (length stream) then refused 16 0 else accepted 0) _ (room-regular room (length stream) short) λ z.
       or-else-regular (if metUN then refused 17 0 else accepted 0) _ (unmet-regular metUN (unmet found)) λ z. accepted-regular (length stream)
 
@@ -172,7 +173,7 @@ answer-regular c =
     or-else-regular size count Short _ _ (test-regular size count Short _ 1 (omega arith)) λ h.
     or-else-regular size count Short _ _ (list-regular size count Short (c .list) (omega arith)) λ h.
     or-else-regular size count Short _ _ (reading-regular (c .set) count Short) λ k.
-    tail-regular size count Short (tagsIn (c .list)) (tree (c .set)) (met (contentOf c)) (stream c) (c .room) (c .expected) (omega arith)
+    tail-regular size count Short (tagsIn (c .list)) (tree (c .set)) (contentWritesUN (contentOf c)) (stream c) (c .room) (c .expected) (omega arith)
     (never-met (tagsIn (c .list)) (tree (c .set)) (c .set)) (λ z r. omega (arith, list-never-longer c h))
   where
     size : ℕ

@@ -9,8 +9,8 @@ use Rattle.dataset.specs.Bytes.{tagAt, between}
 use Rattle.dataset.specs.Tree.{Element, Elements, Items, tagOf}
 use Rattle.dataset.specs.Order.{Tagged, ElementLies, ElementsLie, ItemsLie}
 use Rattle.dataset.specs.Reading.{sizeLimit}
-use Rattle.mac.specs.TagList.{barred}
-use Rattle.mac.specs.Content.{SignedElement, SignedElements, unlessBarred, signed, signedElements, signedItems, inFragments, someInFragments, itemsInFragments}
+use Rattle.mac.specs.TagList.{barred, unlessBarred}
+use Rattle.mac.specs.Content.{SignedElement, SignedElements, signed, signedElements, signedItems, inFragments, someInFragments, itemsInFragments}
 use Rattle.mac_theorems.specs.Injectivity.{Bytes}
 use Rattle.mac.proofs.Either.{first-false, second-false}
 use Rattle.mac.proofs.Slices.{length-between}
@@ -36,7 +36,7 @@ length-fits true d b at start n s h = let k = small16 d b (at + 6) in omega (ari
 length-fits false d b at start n s h = omega arith
 
 unless-barred-decodable : (b : Bool) (e : SignedElement) (rest : SignedElements) → (inFragments e ≡ false → Decodable e) → (someInFragments rest ≡ false → ElementsDecodable rest)
-    → someInFragments (unlessBarred b e rest) ≡ false → ElementsDecodable (unlessBarred b e rest)
+    → someInFragments (unlessBarred b (SignedElements.and e) rest) ≡ false → ElementsDecodable (unlessBarred b (SignedElements.and e) rest)
 unfolding someInFragments ElementsDecodable
 unless-barred-decodable true e rest p q h = q h
 unless-barred-decodable false e rest p q h = (p (first-false (inFragments e) (someInFragments rest) h), q (second-false (inFragments e) (someInFragments rest) h))

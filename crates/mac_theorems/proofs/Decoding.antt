@@ -13,7 +13,7 @@ use borrow.Author.Tests.{ne-eqb}
 use Rattle.dataset.specs.Vr.{SQ, oneOf}
 use Rattle.dataset.specs.Header.{itemTag}
 use Rattle.mac.specs.Content.{SignedElement, SignedElements, SignedItems}
-use Rattle.mac.specs.Stream.{itemMark, endMark}
+use Rattle.mac.specs.Stream.{itemTagBytes, sequenceDelimiterBytes}
 use Rattle.mac_theorems.proofs.ByteSlices.{tagBytes, vrBytes}
 use Rattle.mac_theorems.proofs.Encoding.{isShort, lengthBytes, encode, encodeElements, encodeItems}
 
@@ -182,11 +182,11 @@ unfolding decodeElements
 elements-stop n s g = rw g
 
 items-step : (n : ℕ) (es : SignedElements) (is : SignedItems) (x y s : List ℕ) → decodeElements n s ≡ (es, y) → decodeItems n y ≡ (is, x)
-    → decodeItems (suc n) (itemMark ++ s) ≡ (SignedItems.item es is, x)
+    → decodeItems (suc n) (itemTagBytes ++ s) ≡ (SignedItems.item es is, x)
 unfolding decodeItems frontTag
 items-step n es is x y s h k = rw (h, k)
 
-items-stop : (n : ℕ) (s : List ℕ) → decodeItems (suc n) (endMark ++ s) ≡ (SignedItems.last, s)
+items-stop : (n : ℕ) (s : List ℕ) → decodeItems (suc n) (sequenceDelimiterBytes ++ s) ≡ (SignedItems.last, s)
 unfolding decodeItems frontTag
 items-stop n s = refl
 
@@ -229,7 +229,7 @@ mutual
   items-back SignedItems.last (suc n) x h c = items-stop n x
   items-back (SignedItems.item es is) zero x h c = absurd (not-suc-le-zero h)
   items-back (SignedItems.item es is) (suc n) x h c =
-      subst (λ (q : List ℕ). decodeItems (suc n) (itemMark ++ q) ≡ (SignedItems.item es is, x)) (sym (append-assoc (encodeElements es) (encodeItems is) x))
+      subst (λ (q : List ℕ). decodeItems (suc n) (itemTagBytes ++ q) ≡ (SignedItems.item es is, x)) (sym (append-assoc (encodeElements es) (encodeItems is) x))
       (items-step n es is x (encodeItems is ++ x) _
       (elements-back es n (encodeItems is ++ x) (omega arith) (c .0) (items-end-elements is x))
       (items-back is n x (omega arith) (c .1)))

@@ -8,17 +8,14 @@ use lib.ListN.{length}
 use Rattle.dataset.specs.Bytes.{num16, num32, tagAt, vrAt, between}
 use Rattle.answer.specs.If.{if_then_else_}
 use Rattle.dataset.specs.Vr.{SQ, OB, shortForm, longForm, oneOf, formOf}
-use Rattle.dataset.specs.Header.{itemTag}
 use Rattle.dataset.specs.Tree.{Span, Element, Elements, Items, tagOf}
 use Rattle.dataset.specs.Order.{Sized, ElementLies, ElementsLie, ItemsLie}
-use Rattle.dataset.proofs.Order.{elements-end}
-use Rattle.mac.specs.TagList.{barred}
-use Rattle.mac.specs.Content as content
+use Rattle.mac.specs.TagList.{barred, unlessBarred}
 use Rattle.mac.specs.Content.{SignedElement, SignedElements, SignedItems, fragmentBytes, signed, signedElements, signedItems}
-use Rattle.mac.specs.Stream.{itemMark, endMark, fragmentsStream, unlessBarred, streamOf, elementsStream, itemsStream}
+use Rattle.mac.specs.Stream.{itemTagBytes, sequenceDelimiterBytes, fragmentsStream, streamOf, elementsStream, itemsStream}
 use Rattle.mac_theorems.specs.Injectivity.{Bytes}
 use Rattle.mac.proofs.Slices.{length-between}
-use Rattle.mac_theorems.proofs.ByteSlices.{bytes16, bytes32, tagBytes, vrBytes, between-none, tag-front, header-front, long-front}
+use Rattle.mac_theorems.proofs.ByteSlices.{bytes16, bytes32, tagBytes, vrBytes, between-none, header-front, long-front}
 
 -- a VR of the short form; every other is of the long form
 abbrev pub isShort : (vr : ℕ) → Bool
@@ -30,8 +27,8 @@ lengthBytes true n = bytes16 n
 lengthBytes false n = 0 ∷ 0 ∷ bytes32 n
 
 unfoldable pub encodeFragments : List (List ℕ) → List ℕ
-encodeFragments [] = endMark
-encodeFragments (bytes ∷ rest) = itemMark ++ (bytes ++ encodeFragments rest)
+encodeFragments [] = sequenceDelimiterBytes
+encodeFragments (bytes ∷ rest) = itemTagBytes ++ (bytes ++ encodeFragments rest)
 
 unfoldable mutual
   pub encode : SignedElement → List ℕ
@@ -44,8 +41,8 @@ unfoldable mutual
   encodeElements (SignedElements.and e rest) = encode e ++ encodeElements rest
 
   pub encodeItems : SignedItems → List ℕ
-  encodeItems SignedItems.last = endMark
-  encodeItems (SignedItems.item elements rest) = itemMark ++ (encodeElements elements ++ encodeItems rest)
+  encodeItems SignedItems.last = sequenceDelimiterBytes
+  encodeItems (SignedItems.item elements rest) = itemTagBytes ++ (encodeElements elements ++ encodeItems rest)
 
 -- ---- headers
 
@@ -86,20 +83,14 @@ module _ (d : List ℕ) (b : Bytes d) where
       ∙ ap₂ (λ (v n : ℕ). tagBytes (tagAt d at) ++ (vrBytes v ++ (bytes16 n ++ between d (at + 8) (at + 8)))) e z
       ∙ ap (λ (x : List ℕ). tagBytes (tagAt d at) ++ (vrBytes vr ++ (0 ∷ 0 ∷ x))) (between-none d (at + 8))
 
-  item-encoded : (at : ℕ) → at + 4 ≤ length d → tagAt d at ≡ itemTag → between d at (at + 4) ≡ itemMark
-  item-encoded at h e =
-      tag-front d b at (at + 4) (omega arith) h
-      ∙ ap (λ (t : ℕ). tagBytes t ++ between d (at + 4) (at + 4)) e
-      ∙ ap (λ (x : List ℕ). itemMark ++ x) (between-none d (at + 4))
-
 -- ---- the law
 fragments-encoded : (ss : List Span) (d : List ℕ) → fragmentsStream ss d ≡ encodeFragments (fragmentBytes ss d)
 unfolding fragmentsStream fragmentBytes encodeFragments
 fragments-encoded [] d = refl
-fragments-encoded (s ∷ ss) d = ap (λ (x : List ℕ). itemMark ++ (between d (s .start) (s .end) ++ x)) (fragments-encoded ss d)
+fragments-encoded (s ∷ ss) d = ap (λ (x : List ℕ). itemTagBytes ++ (between d (s .start) (s .end) ++ x)) (fragments-encoded ss d)
 
 unless-barred-encoded : (b : Bool) (e : SignedElement) (rest : SignedElements)
-    → unlessBarred b (encode e) (encodeElements rest) ≡ encodeElements (content.unlessBarred b e rest)
+    → unlessBarred b (λ more. encode e ++ more) (encodeElements rest) ≡ encodeElements (unlessBarred b (SignedElements.and e) rest)
 unfolding encodeElements
 unless-barred-encoded true e rest = refl
 unless-barred-encoded false e rest = refl
@@ -131,13 +122,10 @@ mutual
       → elementsStream es d ≡ encodeElements (signedElements es d)
   elements-encoded Elements.none d b left floor at next r = refl
   elements-encoded (Elements.and e es) d b left floor at next r =
-      ap₂ (unlessBarred (barred (tagOf e))) (element-encoded e d b left at (r .0) (r .2)) (elements-encoded es d b left (tagOf e + 1) (r .0) next (r .3))
+      ap₂ (λ (x y : List ℕ). unlessBarred (barred (tagOf e)) (λ more. x ++ more) y) (element-encoded e d b left at (r .0) (r .2)) (elements-encoded es d b left (tagOf e + 1) (r .0) next (r .3))
       ∙ unless-barred-encoded (barred (tagOf e)) (signed e d) (signedElements es d)
 
   items-encoded : (is : Items) (d : List ℕ) → Bytes d → (left at next : ℕ) → ItemsLie is d left at next → itemsStream is d ≡ encodeItems (signedItems is d)
   items-encoded Items.last d b left at next r = refl
   items-encoded (Items.item p es is) d b left at next r =
-      let k = elements-end es d (left - 1) 0 (at + 8) (r .0) (r .3) in
-      ap (λ (x : ℕ). between d x (x + 4) ++ (elementsStream es d ++ itemsStream is d)) (r .1)
-      ∙ ap (λ (x : List ℕ). x ++ (elementsStream es d ++ itemsStream is d)) (item-encoded d b at (omega (arith, k .order, k .inside)) (r .2))
-      ∙ ap₂ (λ (x y : List ℕ). itemMark ++ (x ++ y)) (elements-encoded es d b (left - 1) 0 (at + 8) (r .0) (r .3)) (items-encoded is d b left (r .0) next (r .4))
+      ap₂ (λ (x y : List ℕ). itemTagBytes ++ (x ++ y)) (elements-encoded es d b (left - 1) 0 (at + 8) (r .0) (r .3)) (items-encoded is d b left (r .0) next (r .4))

@@ -6,14 +6,16 @@ use Rattle.dataset.specs.Bytes.{num16, num32, tagAt, vrAt, between}
 use Rattle.dataset.specs.Vr.{formOf, oneOf}
 use Rattle.dataset.specs.Header.{endsAt, closedBy, badLength, tooDeep, undefinedBy, definedBy, valueBy, longAt, byForm, vrOnAt, elementAt, itemBy, itemAt}
 use Rattle.dataset.specs.Reading.{byHeader, byOne, byItem, byFragment, fragmentsBy, elementsBy, elementsAt, dataSet}
-use Rattle.dataset.specs.Lookup.{find}
-use Rattle.mac.specs.TagList.{tagsIn, barred, badSize, ascending, unbarred, listAnswer}
+use Rattle.dataset.specs.Lookup.{elementOf}
+use Rattle.mac.specs.TagList.{tagsIn, barred, badSize, ascendingAnswer, unbarredAnswer, listAnswer}
 use Rattle.mac.specs.Content.{fragmentBytes, signed, content}
 use Rattle.mac.specs.Stream.{fragmentsStream, streamOf, listedStream}
-use Rattle.mac.specs.Modes.{holdsUN, elementAnswer, tagsAnswer, writesUN, metInSequence, tail, outputAfter}
+use Rattle.mac.specs.UN.{holdsUN, writesUN, sequencesWriteUN}
+use Rattle.mac.specs.Modes.{elementAnswer, tagsAnswer, answerFrom13}
+use Rattle.mac.specs.Result.{outputAfter}
 use Rattle.mac.specs.ListMode.{contentOf, stream, answer}
 use Rattle.mac_theorems.specs.Examples.{examples, ExamplesHold}
 
 pub examples-hold : ExamplesHold
-unfolding examples answer tail outputAfter stream contentOf _orElse_ if_then_else_ listAnswer badSize ascending unbarred barred tagsIn tagsAnswer elementAnswer holdsUN writesUN metInSequence content signed fragmentBytes listedStream streamOf fragmentsStream find dataSet elementsAt elementsBy fragmentsBy byHeader byOne byItem byFragment elementAt vrOnAt byForm longAt badLength tooDeep undefinedBy definedBy valueBy itemAt itemBy endsAt closedBy formOf oneOf num16 num32 tagAt vrAt between
+unfolding examples answer answerFrom13 outputAfter stream contentOf _orElse_ if_then_else_ listAnswer badSize ascendingAnswer unbarredAnswer barred tagsIn tagsAnswer elementAnswer holdsUN writesUN sequencesWriteUN content signed fragmentBytes listedStream streamOf fragmentsStream elementOf dataSet elementsAt elementsBy fragmentsBy byHeader byOne byItem byFragment elementAt vrOnAt byForm longAt badLength tooDeep undefinedBy definedBy valueBy itemAt itemBy endsAt closedBy formOf oneOf num16 num32 tagAt vrAt between
 examples-hold = refl

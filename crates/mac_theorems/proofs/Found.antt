@@ -10,7 +10,7 @@ use borrow.Author.Tests.{eqb-true, ne-eqb}
 use Rattle.answer.specs.If.{if_then_else_}
 use Rattle.dataset.specs.Tree.{Element, Elements, tagOf}
 use Rattle.dataset.specs.Order.{ElementLies, ElementsLie}
-use Rattle.dataset.specs.Lookup.{find}
+use Rattle.dataset.specs.Lookup.{elementOf}
 use Rattle.dataset.proofs.Order.{element-ends}
 
 -- the element e of the tag, from `from` to `mid`, and the elements after it
@@ -22,21 +22,21 @@ pub record FoundAt (tag : ℕ) (es : Elements) (d : List ℕ) (left floor at nex
   pub order : at ≤ from
   pub lies : ElementLies e d left from mid
   pub follow : ElementsLie rest d left (tag + 1) mid next
-  pub later : (t : ℕ) → tag < t → find t es ≡ find t rest
+  pub later : (t : ℕ) → tag < t → elementOf t es ≡ elementOf t rest
 
 -- an element of another tag is passed over
-pass : (k : Element) (es : Elements) (t : ℕ) → tagOf k < t → find t (Elements.and k es) ≡ find t es
-unfolding find if_then_else_
+pass : (k : Element) (es : Elements) (t : ℕ) → tagOf k < t → elementOf t (Elements.and k es) ≡ elementOf t es
+unfolding elementOf if_then_else_
 pass k es t h = rw (ne-eqb (tagOf k) t (λ q. let z : ⊥ = omega arith in z))
 
-pub found-at : (tag : ℕ) (es : Elements) (d : List ℕ) (left floor at next : ℕ) → ElementsLie es d left floor at next → (e : Element) → find tag es ≡ some e
+pub found-at : (tag : ℕ) (es : Elements) (d : List ℕ) (left floor at next : ℕ) → ElementsLie es d left floor at next → (e : Element) → elementOf tag es ≡ some e
     → FoundAt tag es d left floor at next e
-unfolding find if_then_else_ ElementsLie
+unfolding elementOf if_then_else_ ElementsLie
 found-at tag Elements.none d left floor at next r e h = absurd (true≢false (cc))
 found-at tag (Elements.and k es) d left floor at next r e h = go (eqb (tagOf k) tag) refl h (λ f. found-at tag es d left (tagOf k + 1) (r .0) next (r .3) e f)
   where
-    go : (b : Bool) → eqb (tagOf k) tag ≡ b → (if b then some k else find tag es) ≡ some e
-        → (find tag es ≡ some e → FoundAt tag es d left (tagOf k + 1) (r .0) next e) → FoundAt tag (Elements.and k es) d left floor at next e
+    go : (b : Bool) → eqb (tagOf k) tag ≡ b → (if b then some k else elementOf tag es) ≡ some e
+        → (elementOf tag es ≡ some e → FoundAt tag es d left (tagOf k + 1) (r .0) next e) → FoundAt tag (Elements.and k es) d left floor at next e
     go true b f more =
         let q : k ≡ e = cc in
         let t : tagOf k ≡ tag = eqb-true (tagOf k) tag b in

@@ -16,10 +16,12 @@ use Rattle.answer.specs.Answer.{_orElse_}
 use Rattle.dataset.proofs.Guarantees.{DataSetIs, data-set-read}
 use Rattle.digest.specs.Message.{digestOf}
 use Rattle.digest.specs.Sha256.{sha256}
-use Rattle.dataset.specs.Reading.{answerOf}
+use Rattle.dataset.specs.Reading.{answerOf, tree}
 use Rattle.mac.specs.TagList.{tagsIn, listAnswer}
 use Rattle.mac.specs.Content.{SignedElements}
-use Rattle.mac.specs.Modes.{tree, met, tail, compared, isAccepted, verdictOf}
+use Rattle.mac.specs.UN.{contentWritesUN}
+use Rattle.mac.specs.Modes.{answerFrom13}
+use Rattle.mac.specs.Result.{compared, isAccepted, verdictOf}
 use Rattle.mac.specs.ListMode.{Call, contentOf, stream, answer, streamCall, result}
 use Rattle.mac.specs.declared.verdict.Checked.{Checked}
 use Rattle.mac.specs.declared.verdict.Verdict.the-variants as verdict
@@ -51,7 +53,7 @@ module _ (c : Call) (b : Bytes (c .set)) (r : IsRead (c .set)) (row : SignedElem
 
 -- an accepted call has a signed content
 call-has-content : (c : Call) → Accepts c → HasContent (tagsIn (c .list)) (tree (c .set)) (c .set)
-call-has-content c a = has-content (tagsIn (c .list)) 0 (tree (c .set)) (c .set) (a .tail .found)
+call-has-content c a = has-content (tagsIn (c .list)) 0 (tree (c .set)) (c .set) (a .from13 .found)
 
 number-0 : (c : Call) → Accepted c → answer c .number ≡ 0
 number-0 c h = eqb-true (answer c .number) 0 h
@@ -97,9 +99,9 @@ same-verdict c d a s =
 -- the end of the order
 same-tail : (c : Call) (d : List ℕ) (row : SignedElements) → contentOf c ≡ some row → contentOf (on c d) ≡ contentOf c → listedHoldUN (tagsIn (c .list)) (tree (c .set)) ≡ false
     → listedHoldUN (tagsIn (c .list)) (tree d) ≡ false → stream (on c d) ≡ stream c
-    → tail (tagsIn (c .list)) (tree d) (met (contentOf (on c d))) (stream (on c d)) (c .room) (c .expected)
-    ≡ tail (tagsIn (c .list)) (tree (c .set)) (met (contentOf c)) (stream c) (c .room) (c .expected)
-unfolding tail contentOf
+    → answerFrom13 (tagsIn (c .list)) (tree d) (contentWritesUN (contentOf (on c d))) (stream (on c d)) (c .room) (c .expected)
+    ≡ answerFrom13 (tagsIn (c .list)) (tree (c .set)) (contentWritesUN (contentOf c)) (stream c) (c .room) (c .expected)
+unfolding answerFrom13 contentOf
 same-tail c d row is same m n streams =
     rw (same-tags (tagsIn (c .list)) 0 (tree d) (tree (c .set)) d (c .set) row (same ∙ is) is n m, same, streams)
 
@@ -191,11 +193,11 @@ accepted-signs : AcceptedSigns
 unfolding contentOf
 accepted-signs c h =
     let a = accepts c (eqb-true (answer c .number) 0 h) in
-    let r = has-content (tagsIn (c .list)) 0 (tree (c .set)) (c .set) (a .tail .found) in
+    let r = has-content (tagsIn (c .list)) 0 (tree (c .set)) (c .set) (a .from13 .found) in
     record {
       wellFormed = ap answerOf (a .read .is);
       holds = λ e. let z : _≡_ {A = ℕ} 0 1 = cc (r .is, e) in omega arith;
-      known = none-hold (tagsIn (c .list)) 0 (tree (c .set)) (a .tail .found);
+      known = none-hold (tagsIn (c .list)) 0 (tree (c .set)) (a .from13 .found);
     }
 
 pub demand-3 : Demand3

@@ -8,16 +8,17 @@ use mathlib.Core.Option as Opt
 use Rattle.answer.specs.Answer.{_orElse_}
 use Rattle.dataset.specs.Tree.{Element, Elements}
 use Rattle.dataset.specs.Order.{ElementsLie}
-use Rattle.dataset.specs.Lookup.{find}
+use Rattle.dataset.specs.Lookup.{elementOf}
 use Rattle.mac.specs.Content.{SignedElements, signed, joined, content, inFragments, someInFragments}
 use Rattle.mac.specs.Stream.{foundStream, listedStream}
-use Rattle.mac.specs.Modes.{holdsUN, elementAnswer, tagsAnswer}
+use Rattle.mac.specs.UN.{holdsUN}
+use Rattle.mac.specs.Modes.{elementAnswer, tagsAnswer}
 use Rattle.mac_theorems.specs.Injectivity.{foundHoldsUN, listedHoldUN}
 use Rattle.mac.proofs.Either.{first-false, second-false}
 use Rattle.mac_theorems.proofs.Encoding.{encodeElements, element-encoded}
 use Rattle.mac_theorems.proofs.Decoding.{ElementsDecodable}
 use Rattle.mac_theorems.proofs.Decodable.{WithinSize, element-decodable}
-use Rattle.mac.proofs.UnknownVr.{same-vr}
+use Rattle.mac.proofs.UN.{same-vr}
 use Rattle.mac.proofs.ListedElements.{tags-unrefused}
 use Rattle.mac_theorems.proofs.Found.{found-at}
 
@@ -40,7 +41,7 @@ module _ (d : List ℕ) (within : WithinSize d) (es : Elements) (left floor at n
   unfolding content listedStream encodeElements
   listed-encoded [] row h = let q : SignedElements.none ≡ row = cc in rw (← q)
   listed-encoded (tag ∷ tags) row h =
-      let j = joined-of (find tag es) (content tags es d) d row h in
+      let j = joined-of (elementOf tag es) (content tags es d) d row h in
       let f = found-at tag es d left floor at next lies (j .element) (j .found) in
       ap₂ (λ (x : Option Element) (y : List ℕ). foundStream x d ++ y) (j .found) (listed-encoded tags (j .rest) (j .others))
       ∙ ap (λ (x : List ℕ). x ++ encodeElements (j .rest)) (element-encoded (j .element) d (within .bytes) left (f .from) (f .mid) (f .lies))
@@ -50,7 +51,7 @@ module _ (d : List ℕ) (within : WithinSize d) (es : Elements) (left floor at n
   unfolding content someInFragments ElementsDecodable
   content-decodable [] row h n = let q : SignedElements.none ≡ row = cc in subst ElementsDecodable q tt
   content-decodable (tag ∷ tags) row h n =
-      let j = joined-of (find tag es) (content tags es d) d row h in
+      let j = joined-of (elementOf tag es) (content tags es d) d row h in
       let f = found-at tag es d left floor at next lies (j .element) (j .found) in
       let m : someInFragments (SignedElements.and (signed (j .element) d) (j .rest)) ≡ false = ap someInFragments (j .is) ∙ n in
       subst ElementsDecodable (j .is) (
@@ -70,17 +71,17 @@ pub same-tags : (tags : List ℕ) (i : ℕ) (es ks : Elements) (d s : List ℕ) 
 unfolding tagsAnswer content listedHoldUN
 same-tags [] i es ks d s row c k m n = refl
 same-tags (tag ∷ tags) i es ks d s row c k m n =
-    let j = joined-of (find tag es) (content tags es d) d row c in
-    let l = joined-of (find tag ks) (content tags ks s) s row k in
+    let j = joined-of (elementOf tag es) (content tags es d) d row c in
+    let l = joined-of (elementOf tag ks) (content tags ks s) s row k in
     let q : signed (j .element) d ≡ signed (l .element) s = cc (j .is, l .is) in
     let r : l .rest ≡ j .rest = cc (j .is, l .is) in
-    let h : holdsUN (j .element) ≡ false = subst (λ (o : Option Element). foundHoldsUN o ≡ false) (j .found) (first-false (foundHoldsUN (find tag es)) (listedHoldUN tags es) m) in
-    let z : holdsUN (l .element) ≡ false = subst (λ (o : Option Element). foundHoldsUN o ≡ false) (l .found) (first-false (foundHoldsUN (find tag ks)) (listedHoldUN tags ks) n) in
-    let first : elementAnswer i (find tag es) ≡ elementAnswer i (find tag ks) =
+    let h : holdsUN (j .element) ≡ false = subst (λ (o : Option Element). foundHoldsUN o ≡ false) (j .found) (first-false (foundHoldsUN (elementOf tag es)) (listedHoldUN tags es) m) in
+    let z : holdsUN (l .element) ≡ false = subst (λ (o : Option Element). foundHoldsUN o ≡ false) (l .found) (first-false (foundHoldsUN (elementOf tag ks)) (listedHoldUN tags ks) n) in
+    let first : elementAnswer i (elementOf tag es) ≡ elementAnswer i (elementOf tag ks) =
     ap (elementAnswer i) (j .found) ∙ same-element i (j .element) (l .element) d s q h z ∙ sym (ap (elementAnswer i) (l .found)) in
     ap₂ _orElse_ first
-    (same-tags tags (i + 1) es ks d s (j .rest) (j .others) (l .others ∙ ap some r) (second-false (foundHoldsUN (find tag es)) (listedHoldUN tags es) m)
-    (second-false (foundHoldsUN (find tag ks)) (listedHoldUN tags ks) n))
+    (same-tags tags (i + 1) es ks d s (j .rest) (j .others) (l .others ∙ ap some r) (second-false (foundHoldsUN (elementOf tag es)) (listedHoldUN tags es) m)
+    (second-false (foundHoldsUN (elementOf tag ks)) (listedHoldUN tags ks) n))
 
 -- where none of 13, 14 and 15 is given, no listed sequence holds UN
 pub none-hold : (tags : List ℕ) (i : ℕ) (es : Elements) → tagsAnswer i tags es .number ≡ 0 → listedHoldUN tags es ≡ false

@@ -12,18 +12,17 @@ use borrow.Author.Tests.{ltb-true, ltb-false, le-ltb}
 use Rattle.answer.specs.If.{if_then_else_}
 use Rattle.answer.specs.Answer.{refused}
 use Rattle.answer.proofs.Chain.{BothAccepted, both-accepted}
-use Rattle.dataset.specs.Bytes.{between}
 use Rattle.dataset.specs.Vr.{AT, CS, UI}
 use Rattle.dataset.specs.Tree.{Element, Elements, Items}
 use Rattle.dataset.specs.Order.{ElementsLie}
-use Rattle.dataset.specs.Reading.{Reading, levels, dataSet}
-use Rattle.dataset.specs.Lookup.{find}
+use Rattle.dataset.specs.Reading.{Reading, levels, dataSet, treeOf, tree}
+use Rattle.dataset.specs.Lookup.{elementOf}
 use Rattle.dataset.proofs.Guarantees.{data-set-read}
-use Rattle.mac.specs.TagList.{barred, tagsIn, ascending, unbarred, listAnswer}
-use Rattle.mac.specs.Stream.{streamOf, elementsStream, itemsStream, foundStream, listedStream}
-use Rattle.mac.specs.Modes.{treeOf, tree}
+use Rattle.mac.specs.TagList.{barred, tagsIn, ascendingAnswer, unbarredAnswer, listAnswer}
+use Rattle.mac.specs.Stream.{itemTagBytes, streamOf, elementsStream, itemsStream, foundStream, listedStream}
 use Rattle.mac.specs.ListMode as listMode
-use Rattle.mac.specs.SignatureMode.{macCalculationTransferSyntaxUid, macAlgorithm, dataElementsSigned, digitalSignaturesSequence, valueOf, itemsOf, firstItem, itemWhere, signatureItem, macIdOf, parametersItem, badTransferSyntax, badAlgorithm, Selection, refusal, selected, need, parametersSelect, select, numberOf, streamBy, stream}
+use Rattle.mac.specs.Selection.{macCalculationTransferSyntaxUid, macAlgorithm, dataElementsSigned, digitalSignaturesSequence, valueOf, itemsOf, firstItem, itemWhere, signatureItem, macIdOf, parametersItem, badTransferSyntax, badAlgorithm, Selection, refusal, selected, need, parametersSelect, select, numberOf}
+use Rattle.mac.specs.SignatureMode.{streamBy, stream}
 use Rattle.mac_theorems.specs.Theorems.{ListNeverLonger, SignatureNeverLonger}
 use Rattle.mac_theorems.proofs.NeverLonger.{Ascends, ascends, listed-no-longer}
 use Rattle.mac.proofs.OwnContent.{own-fewer}
@@ -31,12 +30,12 @@ use Rattle.mac.proofs.OwnContent.{own-fewer}
 -- ---- list mode
 
 -- the tags of a list that is not refused ascend, and none is barred
-list-accepts : (list : List ℕ) → listAnswer list .number ≡ 0 → BothAccepted (ascending 0 0 (tagsIn list)) (unbarred 0 (tagsIn list))
+list-accepts : (list : List ℕ) → listAnswer list .number ≡ 0 → BothAccepted (ascendingAnswer 0 0 (tagsIn list)) (unbarredAnswer 0 (tagsIn list))
 unfolding listAnswer
 list-accepts list h = both-accepted _ _ (both-accepted _ _ h .second)
 
 -- a refused data set has no elements
-module _ (d tags : List ℕ) (a : ascending 0 0 tags .number ≡ 0) where
+module _ (d tags : List ℕ) (a : ascendingAnswer 0 0 tags .number ≡ 0) where
   tree-no-longer : (r : Reading Elements) → dataSet d ≡ r → length (listedStream tags (treeOf r) d) ≤ length d
   unfolding ElementsLie
   tree-no-longer (Reading.fault f) e =
@@ -57,14 +56,14 @@ insert : (tag : ℕ) → List ℕ → List ℕ
 insert tag [] = tag ∷ []
 insert tag (u ∷ us) = if ltb u tag then u ∷ insert tag us else tag ∷ u ∷ us
 
-ascends-on : (index least tag : ℕ) (tags : List ℕ) → least ≤ tag → ascending (index + 1) (tag + 1) tags .number ≡ 0
-    → ascending index least (tag ∷ tags) .number ≡ 0
-unfolding ascending if_then_else_
+ascends-on : (index least tag : ℕ) (tags : List ℕ) → least ≤ tag → ascendingAnswer (index + 1) (tag + 1) tags .number ≡ 0
+    → ascendingAnswer index least (tag ∷ tags) .number ≡ 0
+unfolding ascendingAnswer if_then_else_
 ascends-on index least tag tags l h = rw (le-ltb tag least l) h
 
 -- the index is only that of a refusal
-ascends-from : (index index' least : ℕ) (tags : List ℕ) → ascending index least tags .number ≡ 0 → ascending index' least tags .number ≡ 0
-unfolding ascending
+ascends-from : (index index' least : ℕ) (tags : List ℕ) → ascendingAnswer index least tags .number ≡ 0 → ascendingAnswer index' least tags .number ≡ 0
+unfolding ascendingAnswer
 ascends-from index index' least [] h = refl
 ascends-from index index' least (tag ∷ tags) h =
     let p = ascends index least tag tags h in
@@ -72,20 +71,20 @@ ascends-from index index' least (tag ∷ tags) h =
 
 record Unbarred (index tag : ℕ) (tags : List ℕ) : Type 0 where
   first : barred tag ≡ false
-  rest : unbarred (index + 1) tags .number ≡ 0
+  rest : unbarredAnswer (index + 1) tags .number ≡ 0
 
-unbars : (index tag : ℕ) (tags : List ℕ) → unbarred index (tag ∷ tags) .number ≡ 0 → Unbarred index tag tags
-unfolding unbarred if_then_else_
+unbars : (index tag : ℕ) (tags : List ℕ) → unbarredAnswer index (tag ∷ tags) .number ≡ 0 → Unbarred index tag tags
+unfolding unbarredAnswer if_then_else_
 unbars index tag tags = go (barred tag) refl
   where
-    go : (b : Bool) → barred tag ≡ b → (if b then refused 12 index else unbarred (index + 1) tags) .number ≡ 0 → Unbarred index tag tags
+    go : (b : Bool) → barred tag ≡ b → (if b then refused 12 index else unbarredAnswer (index + 1) tags) .number ≡ 0 → Unbarred index tag tags
     go true e h = absurd (omega arith)
     go false e h = record { first = e; rest = h }
 
 -- a barred tag is none of those of a list that is not refused
-insert-ascends : (tag : ℕ) → barred tag ≡ true → (index least : ℕ) (us : List ℕ) → least ≤ tag → ascending index least us .number ≡ 0
-    → unbarred index us .number ≡ 0 → ascending index least (insert tag us) .number ≡ 0
-unfolding ascending insert if_then_else_
+insert-ascends : (tag : ℕ) → barred tag ≡ true → (index least : ℕ) (us : List ℕ) → least ≤ tag → ascendingAnswer index least us .number ≡ 0
+    → unbarredAnswer index us .number ≡ 0 → ascendingAnswer index least (insert tag us) .number ≡ 0
+unfolding ascendingAnswer insert if_then_else_
 insert-ascends tag b index least [] l h k = ascends-on index least tag [] l refl
 insert-ascends tag b index least (u ∷ us) l h k =
     let p = ascends index least u us h in
@@ -93,8 +92,8 @@ insert-ascends tag b index least (u ∷ us) l h k =
     go (ltb u tag) refl p (q .first) (λ m. insert-ascends tag b (index + 1) (u + 1) us m (p .rest) (q .rest))
   where
     go : (t : Bool) → ltb u tag ≡ t → Ascends index least u us → barred u ≡ false
-        → (u + 1 ≤ tag → ascending (index + 1) (u + 1) (insert tag us) .number ≡ 0)
-        → ascending index least (if t then u ∷ insert tag us else tag ∷ u ∷ us) .number ≡ 0
+        → (u + 1 ≤ tag → ascendingAnswer (index + 1) (u + 1) (insert tag us) .number ≡ 0)
+        → ascendingAnswer index least (if t then u ∷ insert tag us else tag ∷ u ∷ us) .number ≡ 0
     go true e p q more = ascends-on index least u (insert tag us) (p .first) (more (omega (arith, ltb-true u tag e)))
     go false e p q more =
         let other : tag ≡ u → ⊥ = λ same. true≢false (sym b ∙ ap barred same ∙ q) in
@@ -102,17 +101,17 @@ insert-ascends tag b index least (u ∷ us) l h k =
         ascends-on index least tag (u ∷ us) l (ascends-on (index + 1) (tag + 1) u us above (ascends-from (index + 1) (index + 1 + 1) (u + 1) us (p .rest)))
 
 module _ (es : Elements) (d : List ℕ) where
-  one-length : (tag : ℕ) (tags : List ℕ) → length (listedStream (tag ∷ tags) es d) ≡ length (foundStream (find tag es) d) + length (listedStream tags es d)
+  one-length : (tag : ℕ) (tags : List ℕ) → length (listedStream (tag ∷ tags) es d) ≡ length (foundStream (elementOf tag es) d) + length (listedStream tags es d)
   unfolding listedStream
-  one-length tag tags = length-append (foundStream (find tag es) d) (listedStream tags es d)
+  one-length tag tags = length-append (foundStream (elementOf tag es) d) (listedStream tags es d)
 
-  insert-length : (tag : ℕ) (us : List ℕ) → length (listedStream (insert tag us) es d) ≡ length (foundStream (find tag es) d) + length (listedStream us es d)
+  insert-length : (tag : ℕ) (us : List ℕ) → length (listedStream (insert tag us) es d) ≡ length (foundStream (elementOf tag es) d) + length (listedStream us es d)
   unfolding insert if_then_else_
   insert-length tag [] = one-length tag []
   insert-length tag (u ∷ us) = go (ltb u tag) (insert-length tag us)
     where
-      go : (t : Bool) → length (listedStream (insert tag us) es d) ≡ length (foundStream (find tag es) d) + length (listedStream us es d)
-          → length (listedStream (if t then u ∷ insert tag us else tag ∷ u ∷ us) es d) ≡ length (foundStream (find tag es) d) + length (listedStream (u ∷ us) es d)
+      go : (t : Bool) → length (listedStream (insert tag us) es d) ≡ length (foundStream (elementOf tag es) d) + length (listedStream us es d)
+          → length (listedStream (if t then u ∷ insert tag us else tag ∷ u ∷ us) es d) ≡ length (foundStream (elementOf tag es) d) + length (listedStream (u ∷ us) es d)
       go true h = omega (arith, one-length u (insert tag us), one-length u us)
       go false h = one-length tag (u ∷ us)
 
@@ -129,8 +128,8 @@ need-with number (some a) on item h tags x e = h a tags x e
 parameters-with : (uid d : List ℕ) (item parameters : Elements) → With item (parametersSelect uid d item parameters)
 unfolding parametersSelect if_then_else_
 parameters-with uid d item parameters =
-    go (badTransferSyntax uid (valueOf UI (find macCalculationTransferSyntaxUid parameters) d)) (badAlgorithm (valueOf CS (find macAlgorithm parameters) d))
-    (valueOf AT (find dataElementsSigned parameters) d)
+    go (badTransferSyntax uid (valueOf UI (elementOf macCalculationTransferSyntaxUid parameters) d)) (badAlgorithm (valueOf CS (elementOf macAlgorithm parameters) d))
+    (valueOf AT (elementOf dataElementsSigned parameters) d)
   where
     go : (a b : Bool) (o : Option (List ℕ)) → With item (if a then refusal 21 else if b then refusal 22 else need 23 o λ list. selected list item)
     go true b o tags x e = absurd (true≢false (cc))
@@ -161,7 +160,7 @@ module _ (d : List ℕ) (item : Elements) (test : ℕ → Elements → Bool) whe
     where
       go : (b : Bool) → (if b then some es else firstItem test (index + 1) rest) ≡ some item
           → (firstItem test (index + 1) rest ≡ some item → length (elementsStream item d) ≤ length (itemsStream rest d))
-          → length (elementsStream item d) ≤ length (between d at (at + 4) ++ (elementsStream es d ++ itemsStream rest d))
+          → length (elementsStream item d) ≤ length (itemTagBytes ++ (elementsStream es d ++ itemsStream rest d))
       go true e more = let same : es ≡ item = cc in rw (← same) (simp length-append (omega arith))
       go false e more = let k = more e in simp length-append (omega arith)
 
@@ -183,5 +182,5 @@ signature-never-longer c tags item s h =
     let up = insert-ascends digitalSignaturesSequence refl 0 0 (tagsIn tags) (omega arith) (a .first) (a .second) in
     let l = tree-no-longer d (insert digitalSignaturesSequence (tagsIn tags)) up (dataSet d) refl in
     let i = selected-item (c .uid) (numberOf (c .which)) (tree d) d tags item s in
-    let w = found-within d item _ (find digitalSignaturesSequence (tree d)) i in
+    let w = found-within d item _ (elementOf digitalSignaturesSequence (tree d)) i in
     rw s (simp length-append (omega (arith, insert-length (tree d) d digitalSignaturesSequence (tagsIn tags), own-fewer item d)))

@@ -13,22 +13,22 @@ use Rattle.answer.specs.If.{if_then_else_}
 use Rattle.answer.specs.Answer.{refused}
 use Rattle.dataset.specs.Tree.{Element, Elements}
 use Rattle.dataset.specs.Order.{ElementsLie}
-use Rattle.dataset.specs.Lookup.{find}
+use Rattle.dataset.specs.Lookup.{elementOf}
 use Rattle.dataset.proofs.Order.{elements-end}
-use Rattle.mac.specs.TagList.{ascending}
+use Rattle.mac.specs.TagList.{ascendingAnswer}
 use Rattle.mac.specs.Stream.{streamOf, foundStream, listedStream}
 use Rattle.mac.proofs.StreamLength.{element-length}
 use Rattle.mac_theorems.proofs.Found.{found-at}
 
 pub record Ascends (index least tag : ℕ) (tags : List ℕ) : Type 0 where
   pub first : least ≤ tag
-  pub rest : ascending (index + 1) (tag + 1) tags .number ≡ 0
+  pub rest : ascendingAnswer (index + 1) (tag + 1) tags .number ≡ 0
 
-pub ascends : (index least tag : ℕ) (tags : List ℕ) → ascending index least (tag ∷ tags) .number ≡ 0 → Ascends index least tag tags
-unfolding ascending if_then_else_
+pub ascends : (index least tag : ℕ) (tags : List ℕ) → ascendingAnswer index least (tag ∷ tags) .number ≡ 0 → Ascends index least tag tags
+unfolding ascendingAnswer if_then_else_
 ascends index least tag tags = go (ltb tag least) refl
   where
-    go : (b : Bool) → ltb tag least ≡ b → (if b then refused 11 index else ascending (index + 1) (tag + 1) tags) .number ≡ 0 → Ascends index least tag tags
+    go : (b : Bool) → ltb tag least ≡ b → (if b then refused 11 index else ascendingAnswer (index + 1) (tag + 1) tags) .number ≡ 0 → Ascends index least tag tags
     go true e h = absurd (omega arith)
     go false e h = record { first = ltb-false tag least e; rest = h }
 
@@ -36,14 +36,14 @@ ascends index least tag tags = go (ltb tag least) refl
 module _ (d : List ℕ) (left next : ℕ) (es : Elements) where
   abbrev NoLonger : (least : ℕ) → List ℕ → Type 0
   NoLonger least tags =
-      (rest : Elements) (floor at : ℕ) → ((t : ℕ) → least ≤ t → find t es ≡ find t rest) → ElementsLie rest d left floor at next
+      (rest : Elements) (floor at : ℕ) → ((t : ℕ) → least ≤ t → elementOf t es ≡ elementOf t rest) → ElementsLie rest d left floor at next
       → length (listedStream tags es d) + at ≤ next
 
   one-no-longer : (least tag : ℕ) (tags : List ℕ) → least ≤ tag → NoLonger (tag + 1) tags → NoLonger least (tag ∷ tags)
   unfolding listedStream
-  one-no-longer least tag tags l more rest floor at f r = go (find tag rest) refl
+  one-no-longer least tag tags l more rest floor at f r = go (elementOf tag rest) refl
     where
-      go : (o : Option Element) → find tag rest ≡ o → length (foundStream (find tag es) d ++ listedStream tags es d) + at ≤ next
+      go : (o : Option Element) → elementOf tag rest ≡ o → length (foundStream (elementOf tag es) d ++ listedStream tags es d) + at ≤ next
       go Opt.none e = rw (f tag l ∙ e) (more rest floor at (λ t k. f t (omega arith)) r)
       go (some x) e =
           let g = found-at tag rest d left floor at next r x e in
@@ -51,7 +51,7 @@ module _ (d : List ℕ) (left next : ℕ) (es : Elements) where
           let k = more (g .rest) (tag + 1) (g .mid) (λ t k. f t (omega arith) ∙ g .later t (omega arith)) (g .follow) in
           rw (f tag l ∙ e) (omega (arith, h .0, h .1, k, g .order, length-append (streamOf x d) (listedStream tags es d)))
 
-  pub listed-no-longer : (index least : ℕ) (tags : List ℕ) → ascending index least tags .number ≡ 0 → NoLonger least tags
+  pub listed-no-longer : (index least : ℕ) (tags : List ℕ) → ascendingAnswer index least tags .number ≡ 0 → NoLonger least tags
   unfolding listedStream
   listed-no-longer index least [] a rest floor at f r = let e = elements-end rest d left floor at next r in omega (arith, e .order)
   listed-no-longer index least (tag ∷ tags) a rest floor at f r =

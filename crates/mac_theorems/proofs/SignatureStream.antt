@@ -13,13 +13,15 @@ use Rattle.answer.specs.If.{if_then_else_}
 use Rattle.answer.specs.Answer.{accepted, refused, _orElse_}
 use Rattle.answer.proofs.Chain.{or-else-first, or-else-second, or-else-assoc}
 use Rattle.dataset.specs.Tree.{Elements}
-use Rattle.dataset.specs.Reading.{Reading, fault, read, dataSet, answerOf}
-use Rattle.dataset.specs.Lookup.{find}
+use Rattle.dataset.specs.Reading.{Reading, fault, read, dataSet, answerOf, treeOf, tree}
+use Rattle.dataset.specs.Lookup.{elementOf}
 use Rattle.mac.specs.TagList.{tagsIn, listAnswer}
 use Rattle.mac.specs.Stream.{elementsStream}
-use Rattle.mac.specs.Modes.{treeOf, tree, tagsAnswer, badDigest, met, tail}
+use Rattle.mac.specs.Modes.{tagsAnswer, badDigestLength, answerFrom13}
+use Rattle.mac.specs.UN.{contentWritesUN}
 use Rattle.mac.specs.ListMode as listMode
-use Rattle.mac.specs.SignatureMode.{signatureItem, select, numberOf, selected, own, meets, streamBy, answerBy, Call, selection, stream, answer}
+use Rattle.mac.specs.Selection.{signatureItem, select, numberOf, selected}
+use Rattle.mac.specs.SignatureMode.{own, signatureWritesUN, streamBy, answerBy, Call, selection, stream, answer}
 use Rattle.mac.proofs.ListedElements.{never-met}
 use Rattle.mac.proofs.SignatureAnswers.{own-unmet}
 use Rattle.mac_theorems.specs.Theorems.{asList, SignatureStream}
@@ -56,14 +58,14 @@ module _ (tags : List ℕ) (es : Elements) (some-met all-met : Bool) (first all 
       ∙ room-again (ltb room (length first)) (ltb room (length all)) refl refl
       ∙ ap (λ (x : Answer). (if ltb room (length all) then refused 16 0 else accepted 0) orElse x) (sym (rw (unmet′ z) (or-else-second (accepted 0) _ refl)))
 
-  tail-more : tail tags es all-met all room expected ≡ (tail tags es some-met first room expected orElse whole)
-  unfolding tail
+  tail-more : answerFrom13 tags es all-met all room expected ≡ (answerFrom13 tags es some-met first room expected orElse whole)
+  unfolding answerFrom13
   tail-more = go (eqb (t .number) 0) refl
     where
       digest : Answer
-      digest = if badDigest expected then refused 9 0 else accepted 0
+      digest = if badDigestLength expected then refused 9 0 else accepted 0
 
-      go : (b : Bool) → eqb (t .number) 0 ≡ b → tail tags es all-met all room expected ≡ (tail tags es some-met first room expected orElse whole)
+      go : (b : Bool) → eqb (t .number) 0 ≡ b → answerFrom13 tags es all-met all room expected ≡ (answerFrom13 tags es some-met first room expected orElse whole)
       go false e =
           let n = eqb-false (t .number) 0 e in
           or-else-first t _ n ∙ sym (or-else-assoc t _ whole ∙ or-else-first t _ n)
@@ -83,7 +85,7 @@ module _ (c : Call) (list : List ℕ) (item : Elements) (e : selection c ≡ sel
 
   -- its data set is read: nothing is selected in a refused one
   is-read : (p : Reading Elements) → dataSet d ≡ p → IsRead d
-  unfolding select signatureItem find
+  unfolding select signatureItem elementOf
   is-read (fault f) q =
       let z : select (c .uid) (numberOf (c .which)) Elements.none d ≡ selected list item = rw q at e in
       absurd (true≢false (cc))
@@ -96,7 +98,7 @@ module _ (c : Call) (list : List ℕ) (item : Elements) (e : selection c ≡ sel
     read-number : answerOf (dataSet d) .number ≡ 0
     read-number = ap (λ (p : Reading Elements). answerOf p .number) (r .is)
 
-    signature-answer : answer c ≡ (listAnswer list orElse tail (tagsIn list) es (meets list item es d) (stream c) (c .room) (c .expected))
+    signature-answer : answer c ≡ (listAnswer list orElse answerFrom13 (tagsIn list) es (signatureWritesUN list item es d) (stream c) (c .room) (c .expected))
     unfolding answer answerBy stream
     signature-answer = or-else-second (answerOf (dataSet d)) _ read-number ∙ rw e
 
@@ -104,7 +106,7 @@ module _ (c : Call) (list : List ℕ) (item : Elements) (e : selection c ≡ sel
     unfolding listMode.contentOf
     answers =
         let n = ap length streams ∙ length-append (listMode.stream (asList c list)) (elementsStream (own item) d) in
-        let m = tail-more (tagsIn list) es (met (listMode.contentOf (asList c list))) (meets list item es d) (listMode.stream (asList c list)) (stream c) (c .room) (c .expected)
+        let m = tail-more (tagsIn list) es (contentWritesUN (listMode.contentOf (asList c list))) (signatureWritesUN list item es d) (listMode.stream (asList c list)) (stream c) (c .room) (c .expected)
         (never-met (tagsIn list) es d) (own-unmet list item es d) (omega (arith, n)) in
         signature-answer ∙ ap (λ (x : Answer). listAnswer list orElse x) m
         ∙ sym (ap (λ (x : Answer). x orElse whole-of) (answer-read (asList c list) r) ∙ or-else-assoc (listAnswer list) _ whole-of)

@@ -8,7 +8,7 @@ use borrow.Author.Tests.{eq-eqb, eqb-true, ltb-false}
 use Rattle.answer.specs.declared.Answer.{Answer}
 use Rattle.answer.specs.Answer.{accepted}
 use Rattle.mac.specs.TagList.{tagsIn}
-use Rattle.mac.specs.Modes.{isAccepted}
+use Rattle.mac.specs.Result.{isAccepted}
 use Rattle.mac.specs.ListMode as listMode
 use Rattle.mac_theorems.specs.Theorems.{Call, inListMode, inSignatureMode, setOf, listOf, roomOf, resultOf, Never17, Positions, AcceptedOutput, RefusedOutput, VerdictExact, EnoughRoom, Theorems}
 use Rattle.mac_theorems.proofs.Answers.{Regular, answer-regular}
@@ -29,7 +29,7 @@ call-accepted (inListMode c) h = answer-accepted c h
 call-accepted (inSignatureMode c) h = signed.answer-accepted c h
 
 call-fits : (c : Call) → isAccepted (resultOf c) ≡ true → length (resultOf c .stream) ≤ roomOf c
-call-fits (inListMode c) h = ltb-false (c .room) (length (listMode.stream c)) (accepts c (eqb-true (listMode.answer c .number) 0 h) .tail .fits)
+call-fits (inListMode c) h = ltb-false (c .room) (length (listMode.stream c)) (accepts c (eqb-true (listMode.answer c .number) 0 h) .from13 .fits)
 call-fits (inSignatureMode c) h = signed.answer-fits c h
 
 never-17 : Never17

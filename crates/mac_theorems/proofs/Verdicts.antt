@@ -10,7 +10,8 @@ use borrow.Author.Tests.{eqb-true, eq-eqb}
 use Rattle.answer.specs.If.{if_then_else_}
 use Rattle.digest.specs.Message.{digestOf}
 use Rattle.digest.specs.Sha256.{sha256}
-use Rattle.mac.specs.Modes.{Result, isAccepted, sameBytes, compared, verdictOf}
+use Rattle.mac.specs.Result.{Result, isAccepted, compared, verdictOf}
+use Rattle.mac.specs.Bytes.{sameBytes}
 use Rattle.mac.specs.declared.verdict.Verdict.{Verdict}
 use Rattle.mac.specs.declared.verdict.Verdict.the-variants as verdict
 use Rattle.mac_theorems.specs.Theorems.{Says}

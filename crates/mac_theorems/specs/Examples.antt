@@ -6,7 +6,7 @@ use mathlib.Core.List.{List, [], _∷_, _++_, map}
 use lib.ListN.{length, drop, replicate}
 use Rattle.answer.specs.declared.Answer.{Answer}
 use Rattle.answer.specs.Answer.{accepted, refused}
-use Rattle.mac.specs.Modes.{outputAfter}
+use Rattle.mac.specs.Result.{outputAfter}
 use Rattle.mac.specs.ListMode.{streamCall, answer, result}
 
 pub record Example : Type 0 where

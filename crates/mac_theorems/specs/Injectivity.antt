@@ -10,12 +10,13 @@ use mathlib.Core.Option.{Option, some}
 use mathlib.Core.Option as Opt
 use lib.ListN.{length, getD, take}
 use Rattle.dataset.specs.Tree.{Element, Elements}
-use Rattle.dataset.specs.Reading.{WellFormed}
-use Rattle.dataset.specs.Lookup.{find}
+use Rattle.dataset.specs.Reading.{WellFormed, tree}
+use Rattle.dataset.specs.Lookup.{elementOf}
 use Rattle.mac.specs.TagList.{tagsIn}
 use Rattle.mac.specs.Content.{SignedElements, someInFragments}
 use Rattle.answer.specs.declared.Answer.{Answer}
-use Rattle.mac.specs.Modes.{holdsUN, tree, isAccepted, verdictOf, outputAfter, Streamed, CheckedAs}
+use Rattle.mac.specs.UN.{holdsUN}
+use Rattle.mac.specs.Result.{isAccepted, verdictOf, outputAfter, Streamed, CheckedAs}
 use Rattle.mac.specs.ListMode.{Call, contentOf, stream, answer, streamCall, checkCall, result}
 use Rattle.mac.specs.declared.verdict.Verdict.the-variants as verdict
 use Rattle.mac.specs.declared.verdict.Checked.{Checked}
@@ -39,7 +40,7 @@ foundHoldsUN (some e) = holdsUN e
 
 unfoldable pub listedHoldUN : (tags : List ℕ) → Elements → Bool
 listedHoldUN [] es = false
-listedHoldUN (tag ∷ tags) es = foundHoldsUN (find tag es) || listedHoldUN tags es
+listedHoldUN (tag ∷ tags) es = foundHoldsUN (elementOf tag es) || listedHoldUN tags es
 
 -- the same call on another data set
 abbrev pub on : Call → List ℕ → Call

@@ -7,7 +7,7 @@ use mathlib.Core.List.{List, [], _∷_, _++_, map}
 use lib.ListN.{length, drop}
 use Rattle.answer.specs.declared.Answer.{Answer}
 use Rattle.answer.specs.Answer.{accepted, refused}
-use Rattle.mac.specs.Modes.{outputAfter}
+use Rattle.mac.specs.Result.{outputAfter}
 use Rattle.mac.specs.SignatureMode.{streamCall, answer, result}
 use Rattle.mac.specs.declared.signature_mode.Signature.{Signature}
 use Rattle.mac.specs.declared.signature_mode.Signature.the-variants as signature

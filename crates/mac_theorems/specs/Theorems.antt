@@ -17,9 +17,10 @@ use Rattle.digest.specs.Message.{digestOf}
 use Rattle.digest.specs.Sha256.{sha256}
 use Rattle.mac.specs.TagList.{tagsIn, listAnswer}
 use Rattle.mac.specs.Stream.{elementsStream}
-use Rattle.mac.specs.Modes.{Result, isAccepted, outputAfter, verdictOf}
+use Rattle.mac.specs.Result.{Result, isAccepted, outputAfter, verdictOf}
 use Rattle.mac.specs.ListMode as listMode
-use Rattle.mac.specs.SignatureMode.{Selection, refusal, selected, own}
+use Rattle.mac.specs.Selection.{Selection, refusal, selected}
+use Rattle.mac.specs.SignatureMode.{own}
 use Rattle.mac.specs.SignatureMode as signatureMode
 use Rattle.mac.specs.declared.verdict.Verdict.the-variants as verdict
 

@@ -4,8 +4,11 @@ use borrow.Author.Needs.{needs}
 use Rattle.mac.proofs.list_mode.list_check.Statement.{statement}
 use Rattle.mac.proofs.list_mode.list_check.Tie as tie
 
-list-into-requires : tie.Need-list-into-requires
-list-into-requires c κs = search needs
+bad-digest-length-requires : tie.Need-bad-digest-length-requires
+bad-digest-length-requires c κs = search needs
+
+list-call-requires : tie.Need-list-call-requires
+list-call-requires c κs = search needs
 
 check-of-requires : tie.Need-check-of-requires
 check-of-requires c κs = search (steps.list-room, needs)
@@ -17,4 +20,4 @@ returns : tie.Need-returns
 returns c = search steps.list-checked
 
 pub list-check-spec : {M : Type 1} → statement M
-list-check-spec = tie.close (tie.spec list-into-requires check-of-requires same-length returns)
+list-check-spec = tie.close (tie.spec bad-digest-length-requires list-call-requires check-of-requires same-length returns)

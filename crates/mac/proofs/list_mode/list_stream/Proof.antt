@@ -4,8 +4,8 @@ use borrow.Author.Needs.{needs}
 use Rattle.mac.proofs.list_mode.list_stream.Statement.{statement}
 use Rattle.mac.proofs.list_mode.list_stream.Tie as tie
 
-list-into-requires : tie.Need-list-into-requires
-list-into-requires c κs = search needs
+list-call-requires : tie.Need-list-call-requires
+list-call-requires c κs = search needs
 
 same-length : tie.Need-same-length
 same-length c = search needs
@@ -14,4 +14,4 @@ returns : tie.Need-returns
 returns c = search steps.list-streamed
 
 pub list-stream-spec : {M : Type 1} → statement M
-list-stream-spec = tie.close (tie.spec list-into-requires same-length returns)
+list-stream-spec = tie.close (tie.spec list-call-requires same-length returns)

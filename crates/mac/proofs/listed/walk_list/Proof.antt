@@ -17,8 +17,8 @@ accepted-requires c κs = search needs
 loop-holds : tie.Need-loop-holds Inv-loop μ-loop
 loop-holds c = search steps.list-start
 
-wanted-requires : tie.Need-wanted-requires Inv-loop μ-loop
-wanted-requires c κs = search needs
+next-listed-requires : tie.Need-next-listed-requires Inv-loop μ-loop
+next-listed-requires c κs = search needs
 
 write-one-requires : tie.Need-write-one-requires Inv-loop μ-loop
 write-one-requires c κs = search needs
@@ -70,7 +70,7 @@ walk-list-spec =
     μ-loop
     accepted-requires
     loop-holds
-    wanted-requires
+    next-listed-requires
     write-one-requires
     enum-known-fault
     same-length

@@ -1,7 +1,7 @@
 -- `bad_algorithm` meets its contract: each place by its law in SelectionTests. Assumes nothing.
 use Rattle.mac.proofs.SelectPlaces as places
 use Rattle.mac.proofs.SelectionTests as tests
-use Rattle.mac.specs.SignatureMode.{badAlgorithm}
+use Rattle.mac.specs.Selection.{badAlgorithm}
 use borrow.Author.Needs.{needs}
 use Rattle.mac.proofs.selection.bad_algorithm.Statement.{statement}
 use Rattle.mac.proofs.selection.bad_algorithm.Tie as tie

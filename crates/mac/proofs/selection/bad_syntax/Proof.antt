@@ -1,7 +1,7 @@
 -- `bad_syntax` meets its contract: each place by its law in SelectionTests. Assumes nothing.
 use Rattle.mac.proofs.SelectPlaces as places
 use Rattle.mac.proofs.SelectionTests as tests
-use Rattle.mac.specs.SignatureMode.{badTransferSyntax}
+use Rattle.mac.specs.Selection.{badTransferSyntax}
 use borrow.Author.Needs.{needs}
 use Rattle.mac.proofs.selection.bad_syntax.Statement.{statement}
 use Rattle.mac.proofs.selection.bad_syntax.Tie as tie

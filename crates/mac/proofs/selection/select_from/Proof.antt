@@ -6,8 +6,8 @@ use borrow.Author.Needs.{needs}
 use Rattle.mac.proofs.selection.select_from.Statement.{statement}
 use Rattle.mac.proofs.selection.select_from.Tie as tie
 
-item-of-requires : tie.Need-item-of-requires
-item-of-requires c κs = search (places.place-lies, needs)
+find-item-under-requires : tie.Need-find-item-under-requires
+find-item-under-requires c κs = search (places.place-lies, needs)
 
 enum-known-signature : tie.Need-enum-known-signature
 enum-known-signature c = search needs
@@ -30,8 +30,8 @@ refused-requires-2 c κs = search needs
 returns-2 : tie.Need-returns-2
 returns-2 c = search steps.select-no-value
 
-is-id-requires : tie.Need-is-id-requires
-is-id-requires c κs = search steps.id-order
+is-mac-id-requires : tie.Need-is-mac-id-requires
+is-mac-id-requires c κs = search steps.id-order
 
 refused-requires-3 : tie.Need-refused-requires-3
 refused-requires-3 c κs = search needs
@@ -39,8 +39,8 @@ refused-requires-3 c κs = search needs
 returns-3 : tie.Need-returns-3
 returns-3 c = search (steps.select-other, not-true)
 
-item-of-requires-2 : tie.Need-item-of-requires-2
-item-of-requires-2 c κs = search (places.place-lies, steps.id-order, steps.id-inside)
+find-item-under-requires-2 : tie.Need-find-item-under-requires-2
+find-item-under-requires-2 c κs = search (places.place-lies, steps.id-order, steps.id-inside)
 
 enum-known-chosen : tie.Need-enum-known-chosen
 enum-known-chosen c = search needs
@@ -64,7 +64,7 @@ pub select-from-spec : {M : Type 1} → statement M
 select-from-spec =
     tie.close
     (tie.spec
-    item-of-requires
+    find-item-under-requires
     enum-known-signature
     enum-told
     refused-requires
@@ -72,10 +72,10 @@ select-from-spec =
     enum-known-id
     refused-requires-2
     returns-2
-    is-id-requires
+    is-mac-id-requires
     refused-requires-3
     returns-3
-    item-of-requires-2
+    find-item-under-requires-2
     enum-known-chosen
     enum-told-2
     refused-requires-4

@@ -4,8 +4,11 @@ use borrow.Author.Needs.{needs}
 use Rattle.mac.proofs.signature_mode.signature_check.Statement.{statement}
 use Rattle.mac.proofs.signature_mode.signature_check.Tie as tie
 
-signature-into-requires : tie.Need-signature-into-requires
-signature-into-requires c κs = search needs
+bad-digest-length-requires : tie.Need-bad-digest-length-requires
+bad-digest-length-requires c κs = search needs
+
+signature-call-requires : tie.Need-signature-call-requires
+signature-call-requires c κs = search needs
 
 check-of-requires : tie.Need-check-of-requires
 check-of-requires c κs = search (steps.signature-room, needs)
@@ -18,4 +21,4 @@ returns c = search steps.signature-checked
 
 pub signature-check-spec : {M : Type 1} → statement M
 signature-check-spec =
-    tie.close (tie.spec signature-into-requires check-of-requires same-length returns)
+    tie.close (tie.spec bad-digest-length-requires signature-call-requires check-of-requires same-length returns)

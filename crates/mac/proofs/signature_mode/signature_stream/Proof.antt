@@ -4,8 +4,8 @@ use borrow.Author.Needs.{needs}
 use Rattle.mac.proofs.signature_mode.signature_stream.Statement.{statement}
 use Rattle.mac.proofs.signature_mode.signature_stream.Tie as tie
 
-signature-into-requires : tie.Need-signature-into-requires
-signature-into-requires c κs = search needs
+signature-call-requires : tie.Need-signature-call-requires
+signature-call-requires c κs = search needs
 
 same-length : tie.Need-same-length
 same-length c = search needs
@@ -14,4 +14,4 @@ returns : tie.Need-returns
 returns c = search steps.signature-streamed
 
 pub signature-stream-spec : {M : Type 1} → statement M
-signature-stream-spec = tie.close (tie.spec signature-into-requires same-length returns)
+signature-stream-spec = tie.close (tie.spec signature-call-requires same-length returns)

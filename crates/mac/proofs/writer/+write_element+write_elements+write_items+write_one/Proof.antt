@@ -22,20 +22,16 @@ use Rattle.mac.proofs.writer.+write_element+write_elements+write_items+
 use Rattle.answer.proofs.Answer.refused.Reads as refused-reads
 use Rattle.dataset.proofs.header.header.Reads as header-reads
 use Rattle.dataset.proofs.header.item_header.Reads as item-header-reads
-use Rattle.mac.proofs.writer.copy.Reads as copy-reads
-use Rattle.mac.proofs.writer.either.Reads as either-reads
-use Rattle.mac.proofs.writer.holding.Reads as holding-reads
-use Rattle.mac.proofs.writer.is_unknown.Reads as is-unknown-reads
-use Rattle.mac.proofs.writer.keeps_header.Reads as keeps-header-reads
-use Rattle.mac.proofs.writer.mark.Reads as mark-reads
+use Rattle.mac.proofs.output.copy.Reads as copy-reads
+use Rattle.mac.proofs.writer.nested_written.Reads as nested-written-reads
+use Rattle.mac.proofs.writer.value_written.Reads as value-written-reads
+use Rattle.mac.proofs.keep.keeps_header.Reads as keeps-header-reads
+use Rattle.mac.proofs.output.put_sequence_delimiter.Reads as put-sequence-delimiter-reads
+use Rattle.mac.proofs.output.put_item_tag.Reads as put-item-tag-reads
 use Rattle.mac.proofs.writer.with_offset.Reads as with-offset-reads
 use Rattle.mac.proofs.writer.write_fragments.Reads as write-fragments-reads
-use Rattle.mac.proofs.writer.+write_element+write_elements+write_items+write_one.{
-  statement,
-}
-use Rattle.mac.proofs.writer.+write_element+write_elements+write_items+write_one.Tie.{
-  close,
-}
+use Rattle.mac.proofs.writer.+write_element+write_elements+write_items+write_one.{statement}
+use Rattle.mac.proofs.writer.+write_element+write_elements+write_items+write_one.Tie.{close}
 
 abbrev μ-write-element : Measures 2 write-element-kinds.ps ℕ
 μ-write-element κs a = 4 * a .1 .0 + 1
@@ -95,19 +91,19 @@ write-one-below t =
 -- what each function of the cycle asks of the functions that it calls, and learns from them
 abbrev write-element-claims : ℕ → write-element-lts.Claims
 write-element-claims t =
-    (refused-reads.Asked, refused-reads.Learnt, copy-reads.Asked, copy-reads.Learnt, is-unknown-reads.Asked, is-unknown-reads.Learnt, write-items-below t, write-items.Post, holding-reads.Asked, holding-reads.Learnt, write-fragments-reads.Asked, write-fragments-reads.Learnt)
+    (refused-reads.Asked, refused-reads.Learnt, copy-reads.Asked, copy-reads.Learnt, value-written-reads.Asked, value-written-reads.Learnt, write-items-below t, write-items.Post, nested-written-reads.Asked, nested-written-reads.Learnt, write-fragments-reads.Asked, write-fragments-reads.Learnt)
 
 abbrev write-elements-claims : ℕ → write-elements-lts.Claims
 write-elements-claims t =
-    (write-one-below t, write-one.Post, either-reads.Asked, either-reads.Learnt)
+    (write-one-below t, write-one.Post)
 
 abbrev write-items-claims : ℕ → write-items-lts.Claims
 write-items-claims t =
-    (item-header-reads.Asked, item-header-reads.Learnt, refused-reads.Asked, refused-reads.Learnt, mark-reads.Asked, mark-reads.Learnt, copy-reads.Asked, copy-reads.Learnt, write-elements-below t, write-elements.Post, either-reads.Asked, either-reads.Learnt)
+    (item-header-reads.Asked, item-header-reads.Learnt, refused-reads.Asked, refused-reads.Learnt, put-sequence-delimiter-reads.Asked, put-sequence-delimiter-reads.Learnt, put-item-tag-reads.Asked, put-item-tag-reads.Learnt, write-elements-below t, write-elements.Post)
 
 abbrev write-one-claims : ℕ → write-one-lts.Claims
 write-one-claims t =
-    (header-reads.Asked, header-reads.Learnt, keeps-header-reads.Asked, keeps-header-reads.Learnt, write-element-below t, write-element.Post, with-offset-reads.Asked, with-offset-reads.Learnt, is-unknown-reads.Asked, is-unknown-reads.Learnt)
+    (header-reads.Asked, header-reads.Learnt, keeps-header-reads.Asked, keeps-header-reads.Learnt, write-element-below t, write-element.Post, with-offset-reads.Asked, with-offset-reads.Learnt, value-written-reads.Asked, value-written-reads.Learnt)
 
 write-element-enum-known-h : (t : ℕ) → write-element-lts.Need-enum-known-h (write-element-claims t) (write-element-at t) write-element.Post
 write-element-enum-known-h t c = search needs
@@ -124,14 +120,14 @@ write-element-enum-known-h-3 t c = search needs
 write-element-copy-requires : (t : ℕ) → write-element-lts.Need-copy-requires (write-element-claims t) (write-element-at t) write-element.Post
 write-element-copy-requires t c κs = (search element.value-order, search element.value-inside)
 
-write-element-is-unknown-requires : (t : ℕ) → write-element-lts.Need-is-unknown-requires (write-element-claims t) (write-element-at t) write-element.Post
-write-element-is-unknown-requires t c κs = search needs
+write-element-value-written-requires : (t : ℕ) → write-element-lts.Need-value-written-requires (write-element-claims t) (write-element-at t) write-element.Post
+write-element-value-written-requires t c κs = search needs
 
-write-element-sub-t27 : (t : ℕ) → write-element-lts.Need-sub-t27 (write-element-claims t) (write-element-at t) write-element.Post
-write-element-sub-t27 t c = search element.value-order
+write-element-sub-value-written : (t : ℕ) → write-element-lts.Need-sub-value-written (write-element-claims t) (write-element-at t) write-element.Post
+write-element-sub-value-written t c = search element.value-order
 
-write-element-add-t28 : (t : ℕ) → write-element-lts.Need-add-t28 (write-element-claims t) (write-element-at t) write-element.Post
-write-element-add-t28 t c = search element.value-fits
+write-element-add-value-written : (t : ℕ) → write-element-lts.Need-add-value-written (write-element-claims t) (write-element-at t) write-element.Post
+write-element-add-value-written t c = search element.value-fits
 
 write-element-enum-known-h-4 : (t : ℕ) → write-element-lts.Need-enum-known-h-4 (write-element-claims t) (write-element-at t) write-element.Post
 write-element-enum-known-h-4 t c = search needs
@@ -148,8 +144,8 @@ write-element-add-write-items t c = search element.sequence-to-fits
 write-element-write-items-requires : (t : ℕ) → write-element-lts.Need-write-items-requires (write-element-claims t) (write-element-at t) write-element.Post
 write-element-write-items-requires t c κs = search (element.sequence-level, element.sequence-room, element.sequence-order, element.sequence-inside, needs)
 
-write-element-holding-requires : (t : ℕ) → write-element-lts.Need-holding-requires (write-element-claims t) (write-element-at t) write-element.Post
-write-element-holding-requires t c κs = search needs
+write-element-nested-written-requires : (t : ℕ) → write-element-lts.Need-nested-written-requires (write-element-claims t) (write-element-at t) write-element.Post
+write-element-nested-written-requires t c κs = search needs
 
 write-element-enum-known-h-5 : (t : ℕ) → write-element-lts.Need-enum-known-h-5 (write-element-claims t) (write-element-at t) write-element.Post
 write-element-enum-known-h-5 t c = search needs
@@ -166,8 +162,8 @@ write-element-add-write-fragments t c = search element.parts-to-fits
 write-element-write-fragments-requires : (t : ℕ) → write-element-lts.Need-write-fragments-requires (write-element-claims t) (write-element-at t) write-element.Post
 write-element-write-fragments-requires t c κs = search (element.parts-room, element.parts-order, needs)
 
-write-element-holding-requires-2 : (t : ℕ) → write-element-lts.Need-holding-requires-2 (write-element-claims t) (write-element-at t) write-element.Post
-write-element-holding-requires-2 t c κs = search needs
+write-element-nested-written-requires-2 : (t : ℕ) → write-element-lts.Need-nested-written-requires-2 (write-element-claims t) (write-element-at t) write-element.Post
+write-element-nested-written-requires-2 t c κs = search needs
 
 write-element-returns : (t : ℕ) → write-element-lts.Need-returns (write-element-claims t) (write-element-at t) write-element.Post
 write-element-returns t c = search element.element-refused
@@ -226,12 +222,6 @@ write-elements-returns-2 t c = search elements.elements-end
 write-elements-enum-known-tag : (t : ℕ) → write-elements-lts.Need-enum-known-tag (write-elements-claims t) (write-elements-at t) write-elements.Post write-elements-Inv-loop write-elements-μ-loop
 write-elements-enum-known-tag t c = search needs
 
-write-elements-either-requires : (t : ℕ) → write-elements-lts.Need-either-requires (write-elements-claims t) (write-elements-at t) write-elements.Post write-elements-Inv-loop write-elements-μ-loop
-write-elements-either-requires t c κs = search needs
-
-write-elements-either-requires-2 : (t : ℕ) → write-elements-lts.Need-either-requires-2 (write-elements-claims t) (write-elements-at t) write-elements.Post write-elements-Inv-loop write-elements-μ-loop
-write-elements-either-requires-2 t c κs = search needs
-
 write-elements-cast-least : (t : ℕ) → write-elements-lts.Need-cast-least (write-elements-claims t) (write-elements-at t) write-elements.Post write-elements-Inv-loop write-elements-μ-loop
 write-elements-cast-least t c = search needs
 
@@ -271,8 +261,8 @@ write-items-returns t c = search items.items-refused
 write-items-enum-known-next : (t : ℕ) → write-items-lts.Need-enum-known-next (write-items-claims t) (write-items-at t) write-items.Post write-items-Inv-loop write-items-μ-loop
 write-items-enum-known-next t c = search needs
 
-write-items-mark-requires : (t : ℕ) → write-items-lts.Need-mark-requires (write-items-claims t) (write-items-at t) write-items.Post write-items-Inv-loop write-items-μ-loop
-write-items-mark-requires t c κs = search needs
+write-items-put-sequence-delimiter-requires : (t : ℕ) → write-items-lts.Need-put-sequence-delimiter-requires (write-items-claims t) (write-items-at t) write-items.Post write-items-Inv-loop write-items-μ-loop
+write-items-put-sequence-delimiter-requires t c κs = search needs
 
 write-items-add-t25 : (t : ℕ) → write-items-lts.Need-add-t25 (write-items-claims t) (write-items-at t) write-items.Post write-items-Inv-loop write-items-μ-loop
 write-items-add-t25 t c = search needs
@@ -286,11 +276,8 @@ write-items-returns-2 t c = search items.items-end
 write-items-enum-known-start : (t : ℕ) → write-items-lts.Need-enum-known-start (write-items-claims t) (write-items-at t) write-items.Post write-items-Inv-loop write-items-μ-loop
 write-items-enum-known-start t c = search needs
 
-write-items-add-copy : (t : ℕ) → write-items-lts.Need-add-copy (write-items-claims t) (write-items-at t) write-items.Post write-items-Inv-loop write-items-μ-loop
-write-items-add-copy t c = search items.item-fits
-
-write-items-copy-requires : (t : ℕ) → write-items-lts.Need-copy-requires (write-items-claims t) (write-items-at t) write-items.Post write-items-Inv-loop write-items-μ-loop
-write-items-copy-requires t c κs = (search needs, search items.item-header)
+write-items-put-item-tag-requires : (t : ℕ) → write-items-lts.Need-put-item-tag-requires (write-items-claims t) (write-items-at t) write-items.Post write-items-Inv-loop write-items-μ-loop
+write-items-put-item-tag-requires t c κs = search needs
 
 write-items-sub-write-elements : (t : ℕ) → write-items-lts.Need-sub-write-elements (write-items-claims t) (write-items-at t) write-items.Post write-items-Inv-loop write-items-μ-loop
 write-items-sub-write-elements t c = search needs
@@ -310,11 +297,8 @@ write-items-same-length-3 t c = search needs
 write-items-returns-3 : (t : ℕ) → write-items-lts.Need-returns-3 (write-items-claims t) (write-items-at t) write-items.Post write-items-Inv-loop write-items-μ-loop
 write-items-returns-3 t c = search items.item-refused
 
-write-items-enum-known-unknown : (t : ℕ) → write-items-lts.Need-enum-known-unknown (write-items-claims t) (write-items-at t) write-items.Post write-items-Inv-loop write-items-μ-loop
-write-items-enum-known-unknown t c = search needs
-
-write-items-either-requires : (t : ℕ) → write-items-lts.Need-either-requires (write-items-claims t) (write-items-at t) write-items.Post write-items-Inv-loop write-items-μ-loop
-write-items-either-requires t c κs = search needs
+write-items-enum-known-holds-un : (t : ℕ) → write-items-lts.Need-enum-known-holds-un (write-items-claims t) (write-items-at t) write-items.Post write-items-Inv-loop write-items-μ-loop
+write-items-enum-known-holds-un t c = search needs
 
 write-items-loop-less : (t : ℕ) → write-items-lts.Need-loop-less (write-items-claims t) (write-items-at t) write-items.Post write-items-Inv-loop write-items-μ-loop
 write-items-loop-less t c = search items.item-less
@@ -353,8 +337,8 @@ write-one-with-offset-requires t c κs = search needs
 write-one-returns-2 : (t : ℕ) → write-one-lts.Need-returns-2 (write-one-claims t) (write-one-at t) write-one.Post
 write-one-returns-2 t c = search element.one-left
 
-write-one-is-unknown-requires : (t : ℕ) → write-one-lts.Need-is-unknown-requires (write-one-claims t) (write-one-at t) write-one.Post
-write-one-is-unknown-requires t c κs = search needs
+write-one-value-written-requires : (t : ℕ) → write-one-lts.Need-value-written-requires (write-one-claims t) (write-one-at t) write-one.Post
+write-one-value-written-requires t c κs = search needs
 
 write-one-returns-3 : (t : ℕ) → write-one-lts.Need-returns-3 (write-one-claims t) (write-one-at t) write-one.Post
 write-one-returns-3 t c = search element.one-passed
@@ -369,21 +353,21 @@ pub +write-element+write-elements+write-items+write-one-spec : {M : Type 1} → 
     (write-element-enum-known-h-2 t)
     (write-element-enum-known-h-3 t)
     (write-element-copy-requires t)
-    (write-element-is-unknown-requires t)
-    (write-element-sub-t27 t)
-    (write-element-add-t28 t)
+    (write-element-sub-value-written t)
+    (write-element-add-value-written t)
+    (write-element-value-written-requires t)
     (write-element-enum-known-h-4 t)
     (write-element-add-copy t)
     (write-element-copy-requires-2 t)
     (write-element-add-write-items t)
     (write-element-write-items-requires t)
-    (write-element-holding-requires t)
+    (write-element-nested-written-requires t)
     (write-element-enum-known-h-5 t)
     (write-element-add-copy-2 t)
     (write-element-copy-requires-3 t)
     (write-element-add-write-fragments t)
     (write-element-write-fragments-requires t)
-    (write-element-holding-requires-2 t)
+    (write-element-nested-written-requires-2 t)
     (write-element-returns t)
     (write-element-returns-2 t)
     (write-element-same-length t)
@@ -406,8 +390,6 @@ pub +write-element+write-elements+write-items+write-one-spec : {M : Type 1} → 
     (write-elements-same-length-2 t)
     (write-elements-returns-2 t)
     (write-elements-enum-known-tag t)
-    (write-elements-either-requires t)
-    (write-elements-either-requires-2 t)
     (write-elements-cast-least t)
     (write-elements-add-least t)
     (write-elements-loop-less t)
@@ -424,21 +406,19 @@ pub +write-element+write-elements+write-items+write-one-spec : {M : Type 1} → 
     (write-items-same-length t)
     (write-items-returns t)
     (write-items-enum-known-next t)
-    (write-items-mark-requires t)
+    (write-items-put-sequence-delimiter-requires t)
     (write-items-add-t25 t)
     (write-items-same-length-2 t)
     (write-items-returns-2 t)
     (write-items-enum-known-start t)
-    (write-items-add-copy t)
-    (write-items-copy-requires t)
+    (write-items-put-item-tag-requires t)
     (write-items-sub-write-elements t)
     (write-items-add-write-elements t)
     (write-items-write-elements-requires t)
     (write-items-enum-known-fault t)
     (write-items-same-length-3 t)
     (write-items-returns-3 t)
-    (write-items-enum-known-unknown t)
-    (write-items-either-requires t)
+    (write-items-enum-known-holds-un t)
     (write-items-loop-less t)
     (write-items-loop-again t))
     λ t. write-one-lts.spec (write-one-claims t)
@@ -454,5 +434,5 @@ pub +write-element+write-elements+write-items+write-one-spec : {M : Type 1} → 
     (write-one-write-element-requires-2 t)
     (write-one-with-offset-requires t)
     (write-one-returns-2 t)
-    (write-one-is-unknown-requires t)
+    (write-one-value-written-requires t)
     (write-one-returns-3 t)

@@ -4,8 +4,8 @@ use borrow.Author.Needs.{needs}
 use Rattle.mac.proofs.writer.write_fragment.Statement.{statement}
 use Rattle.mac.proofs.writer.write_fragment.Tie as tie
 
-mark-requires : tie.Need-mark-requires
-mark-requires c κs = search needs
+put-item-tag-requires : tie.Need-put-item-tag-requires
+put-item-tag-requires c κs = search needs
 
 add-copy : tie.Need-add-copy
 add-copy c = search needs
@@ -20,4 +20,4 @@ returns : tie.Need-returns
 returns c = search steps.fragment-run
 
 pub write-fragment-spec : {M : Type 1} → statement M
-write-fragment-spec = tie.close (tie.spec mark-requires add-copy copy-requires same-length returns)
+write-fragment-spec = tie.close (tie.spec put-item-tag-requires add-copy copy-requires same-length returns)

@@ -32,8 +32,8 @@ returns c = search steps.fragments-refused
 enum-known-next : tie.Need-enum-known-next Inv-loop μ-loop
 enum-known-next c = search needs
 
-mark-requires : tie.Need-mark-requires Inv-loop μ-loop
-mark-requires c κs = search needs
+put-sequence-delimiter-requires : tie.Need-put-sequence-delimiter-requires Inv-loop μ-loop
+put-sequence-delimiter-requires c κs = search needs
 
 add-t18 : tie.Need-add-t18 Inv-loop μ-loop
 add-t18 c = search needs
@@ -78,7 +78,7 @@ write-fragments-spec =
     same-length
     returns
     enum-known-next
-    mark-requires
+    put-sequence-delimiter-requires
     add-t18
     same-length-2
     returns-2

@@ -1,0 +1,41 @@
+-- The end of the order, which both modes share: what an accepted one leaves, and its answer. Assumes nothing.
+use Prim.Native.Nat.{ℕ}
+use mathlib.Core.Path.{_≡_, _∙_}
+use mathlib.Core.Bool.{Bool, false}
+use mathlib.Core.List.{List}
+use mathlib.Core.Option.{Option}
+use native.Mathlib.Omega.{arith}
+use lib.Dec.{ltb}
+use lib.ListN.{length}
+use Rattle.answer.specs.If.{if_then_else_}
+use Rattle.answer.specs.Answer.{accepted}
+use Rattle.answer.proofs.Chain.{or-else-second, both-accepted, passed}
+use Rattle.dataset.specs.Tree.{Elements}
+use Rattle.mac.specs.Modes.{tagsAnswer, badDigestLength, answerFrom13}
+
+-- none of 13, 14, 15, 9 and 16
+pub record TailAccepts (tags : List ℕ) (es : Elements) (stream : List ℕ) (room : ℕ) (expected : Option (List ℕ)) : Type 0 where
+  pub found : tagsAnswer 0 tags es .number ≡ 0
+  pub digest : badDigestLength expected ≡ false
+  pub fits : ltb room (length stream) ≡ false
+
+module _ (tags : List ℕ) (es : Elements) (metUN : Bool) (stream : List ℕ) (room : ℕ) (expected : Option (List ℕ)) where
+  pub tail-accepts : answerFrom13 tags es metUN stream room expected .number ≡ 0 → TailAccepts tags es stream room expected
+  unfolding answerFrom13
+  tail-accepts h =
+      let found = both-accepted _ _ h in
+      let digest = both-accepted _ _ (found .second) in
+      let fits = both-accepted _ _ (digest .second) in
+      record {
+        found = found .first;
+        digest = passed (badDigestLength expected) 9 0 (λ z. omega arith) (digest .first);
+        fits = passed (ltb room (length stream)) 16 0 (λ z. omega arith) (fits .first);
+      }
+
+  pub tail-accepted : TailAccepts tags es stream room expected → metUN ≡ false → answerFrom13 tags es metUN stream room expected ≡ accepted (length stream)
+  unfolding answerFrom13 if_then_else_
+  tail-accepted a unmet =
+      or-else-second _ _ (a .found)
+      ∙ or-else-second _ _ (rw (a .digest))
+      ∙ or-else-second _ _ (rw (a .fits))
+      ∙ or-else-second _ _ (rw unmet)

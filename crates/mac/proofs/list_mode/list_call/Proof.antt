@@ -1,0 +1,29 @@
+-- `list_call` meets its contract: each place by its law in ListModeSteps. Assumes nothing.
+use Rattle.mac.proofs.CallSteps as into
+use Rattle.mac.proofs.ListModeSteps as steps
+use borrow.Author.Needs.{needs}
+use Rattle.mac.proofs.list_mode.list_call.Statement.{statement}
+use Rattle.mac.proofs.list_mode.list_call.Tie as tie
+
+refused-requires : tie.Need-refused-requires
+refused-requires c κs = search needs
+
+returns : tie.Need-returns
+returns c = search steps.list-over
+
+whole-requires : tie.Need-whole-requires
+whole-requires c κs = search needs
+
+answer-from-10-requires : tie.Need-answer-from-10-requires
+answer-from-10-requires c κs = search (into.whole-lies, needs)
+
+same-length : tie.Need-same-length
+same-length c = search needs
+
+returns-2 : tie.Need-returns-2
+returns-2 c = search steps.list-call
+
+pub list-call-spec : {M : Type 1} → statement M
+list-call-spec =
+    tie.close
+    (tie.spec refused-requires returns whole-requires answer-from-10-requires same-length returns-2)

@@ -1,0 +1,32 @@
+-- For inner contracts; no part of what a reader has to believe: the walk over the signature item's own elements.
+-- Assumes nothing.
+use Prim.Native.Nat.{ℕ}
+use mathlib.Core.Bool.{_||_}
+use mathlib.Core.List.{List}
+use Rattle.answer.specs.If.{if_then_else_}
+use Rattle.dataset.specs.Tree.{Elements}
+use Rattle.mac.specs.Inner.Extent.{elementsIn}
+use Rattle.mac.specs.Inner.Writer.{walked, holdsNone, Walk}
+use Rattle.mac.specs.declared.extent.Extent.{Extent}
+use Rattle.mac.specs.declared.writer.Written.{Written}
+use Rattle.mac.specs.TagList.{barred}
+use Rattle.mac.specs.Stream.{elementsStream}
+use Rattle.mac.specs.SignatureMode.{named, own}
+use Rattle.mac.specs.declared.keep.Keep.{Keep}
+use Rattle.mac.specs.declared.keep.Keep.the-variants as keep
+use Rattle.mac.specs.declared.writer.OneWritten.{OneWritten}
+use Rattle.mac.specs.declared.writer.OneWritten.the-variants as one
+
+-- the stream of the signature item's own elements
+unfoldable pub ownStream : Elements → List ℕ → List ℕ
+ownStream es d = elementsStream (own es) d
+
+-- the element that is kept, by what was read in its place
+unfoldable pub ownKeep : OneWritten → Keep
+ownKeep (one.Refused f) = keep.Nothing
+ownKeep (one.End next) = keep.Nothing
+ownKeep (one.Element tag isUN holds next to) = if named tag || (barred tag || (isUN || holds)) then keep.Nothing else keep.Only tag
+
+-- the walk over the signature item's own elements
+abbrev pub OwnWalk : List ℕ → Extent → (to : ℕ) → Written → (before after : List ℕ) → Type 0
+OwnWalk d x to r before after = Walk (walked holdsNone ownStream) ownStream (elementsIn d x) d to r before after

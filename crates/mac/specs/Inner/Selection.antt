@@ -1,0 +1,120 @@
+-- For inner contracts; no part of what a reader has to believe: the functions of the selection.
+-- Assumes nothing.
+use Prim.Native.Nat.{ℕ, _≤_}
+use mathlib.Core.Path.{_≡_}
+use mathlib.Core.Bool.{Bool}
+use mathlib.Core.List.{List}
+use mathlib.Core.Option.{Option, some}
+use mathlib.Core.Option as Opt
+use lib.Dec.{eqb}
+use lib.ListN.{length, take}
+use Rattle.answer.specs.Answer.{refused}
+use Rattle.dataset.specs.Bytes.{between}
+use Rattle.dataset.specs.Vr.{CS, UI, US}
+use Rattle.dataset.specs.Tree.{Element, Elements, Items}
+use Rattle.dataset.specs.Reading.{Reading, fault, read}
+use Rattle.dataset.specs.Lookup.{elementOf}
+use Rattle.mac.specs.Selection.{macIdNumber, dataElementsSigned, macParametersSequence, digitalSignaturesSequence, itemsOf, valueOf, firstItem, itemWhere, twoBytes, macIdOf, isId, lessNul, badTransferSyntax, badAlgorithm, parametersSelect, select, refusal, selected}
+use Rattle.mac.specs.Selection as mode
+use Rattle.mac.specs.Inner.Extent.{Lies, elementsIn}
+use Rattle.mac.specs.Inner.Seek.{Placed}
+use Rattle.mac.specs.declared.extent.Extent.{Extent}
+use Rattle.mac.specs.declared.seek.Place.{Place}
+use Rattle.mac.specs.declared.selection.ItemKey.{ItemKey}
+use Rattle.mac.specs.declared.selection.ItemKey.the-variants as key
+use Rattle.mac.specs.declared.selection.FoundItem.{FoundItem}
+use Rattle.mac.specs.declared.selection.FoundItem.the-variants as found
+use Rattle.mac.specs.declared.selection.Selection.{Selection}
+use Rattle.mac.specs.declared.selection.Selection.the-variants as selection
+
+-- ---- the item that has a key
+
+abbrev pub hasKey : List ℕ → ItemKey → (index : ℕ) → Elements → Bool
+hasKey d (key.Number n) index es = eqb index n
+hasKey d (key.MacId start end) index es = isId (between d start end) (macIdOf es d)
+
+abbrev pub KeyLies : List ℕ → ItemKey → Type 0
+KeyLies d (key.Number n) = Unit {0}
+KeyLies d (key.MacId start end) = (start ≤ end) × (end ≤ length d)
+
+pub record ItemFound (d : List ℕ) (es : Elements) (r : FoundItem) : Type 0 where
+  pub inside : Extent
+  pub id : Place
+  pub list : Place
+  pub is : r ≡ found.Item inside id list
+  pub lies : Lies d inside
+  pub next : ℕ
+  pub reads : elementsIn d inside ≡ read es next
+  pub placed : Placed d (elementOf macIdNumber es) id
+  pub placed′ : Placed d (elementOf dataElementsSigned es) list
+
+abbrev pub FoundItemAs : List ℕ → Option Elements → FoundItem → Type 0
+FoundItemAs d Opt.none r = r ≡ found.Absent
+FoundItemAs d (some es) r = ItemFound d es r
+
+-- of items that are refused nothing is said: none are asked
+abbrev pub FoundItemIn : List ℕ → ItemKey → (index : ℕ) → Reading Items → FoundItem → Type 0
+FoundItemIn d w index (fault f) r = Unit {0}
+FoundItemIn d w index (read items next) r = FoundItemAs d (firstItem (hasKey d w) index items) r
+
+-- r is this test of the value of this VR that the element at p has, or of none
+pub record Tests (vr : ℕ) (test : Option (List ℕ) → Bool) (d : List ℕ) (p : Place) (r : Bool) : Type 0 where
+  pub says : (o : Option Element) → Placed d o p → r ≡ test (valueOf vr o d)
+
+-- whether it is a MAC ID Number with these bytes
+abbrev pub SameMacId : List ℕ → Place → (start end : ℕ) → Bool → Type 0
+SameMacId d p start end r = Tests US (λ value. isId (between d start end) (twoBytes value)) d p r
+
+-- whether the item es, whose MAC ID Number lies at p, has the key
+abbrev pub TestsKey : List ℕ → ItemKey → (index : ℕ) → Place → Bool → Type 0
+TestsKey d w index p r = (es : Elements) → Placed d (elementOf macIdNumber es) p → r ≡ hasKey d w index es
+
+-- the first item with the key, of the element o, which lies at p
+pub record FoundItemUnder (d : List ℕ) (p : Place) (w : ItemKey) (r : FoundItem) : Type 0 where
+  pub says : (o : Option Element) → Placed d o p → FoundItemAs d (itemWhere (hasKey d w) (itemsOf o)) r
+
+-- ---- the tests of the parameters item
+
+-- the bytes of a value that are left without a trailing NUL are its first r
+pub record LessNul (value : List ℕ) (r : ℕ) : Type 0 where
+  pub within : r ≤ length value
+  pub is : take r value ≡ lessNul value
+
+abbrev pub BadSyntax : (uid d : List ℕ) → Place → Bool → Type 0
+BadSyntax uid d p r = Tests UI (badTransferSyntax uid) d p r
+
+abbrev pub BadAlgorithm : List ℕ → Place → Bool → Type 0
+BadAlgorithm d p r = Tests CS badAlgorithm d p r
+
+-- ---- what is selected
+
+pub record IsSelected (d list : List ℕ) (item : Elements) (r : Selection) : Type 0 where
+  pub start : ℕ
+  pub end : ℕ
+  pub extent : Extent
+  pub is : r ≡ selection.Selected start end extent
+  pub order : start ≤ end
+  pub inside : end ≤ length d
+  pub listed : list ≡ between d start end
+  pub lies : Lies d extent
+  pub next : ℕ
+  pub reads : elementsIn d extent ≡ read item next
+
+abbrev pub SelectionAs : List ℕ → mode.Selection → Selection → Type 0
+SelectionAs d (refusal number) r = r ≡ selection.Refused (refused number 0)
+SelectionAs d (selected list item) r = IsSelected d list item r
+
+-- by the extents of the signature item and of the parameters item, and the place of the list in the latter
+pub record ListOf (uid d : List ℕ) (item parameters : Extent) (list : Place) (r : Selection) : Type 0 where
+  pub says : (es ps : Elements) (n m : ℕ) → elementsIn d item ≡ read es n → elementsIn d parameters ≡ read ps m → Placed d (elementOf dataElementsSigned ps) list
+      → SelectionAs d (parametersSelect uid d es ps) r
+
+-- by the places of the two sequences
+pub record SelectOf (uid : List ℕ) (number : ℕ) (d : List ℕ) (parameters signatures : Place) (r : Selection) : Type 0 where
+  pub says : (es : Elements) → Placed d (elementOf macParametersSequence es) parameters → Placed d (elementOf digitalSignaturesSequence es) signatures
+      → SelectionAs d (select uid number es d) r
+
+-- in an extent
+abbrev pub SelectedIn : (uid : List ℕ) (number : ℕ) (d : List ℕ) → Reading Elements → Selection → Type 0
+SelectedIn uid number d (fault f) r = r ≡ selection.Refused f
+SelectedIn uid number d (read es next) r = SelectionAs d (select uid number es d) r
