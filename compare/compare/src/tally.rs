@@ -122,7 +122,11 @@ impl Tally {
         row(&outcome.to_string(), |function| {
             let count = self.of(function, outcome);
             let possible = count > 0 || function.outcomes().contains(&outcome);
-            if possible { count.to_string() } else { "-".to_string() }
+            if possible {
+                count.to_string()
+            } else {
+                "-".to_string()
+            }
         })
     }
 }

@@ -2,8 +2,8 @@
 //! running digest's number 25.
 
 mod common;
-use independent::sha256::*;
 use common::hex;
+use independent::sha256::*;
 
 fn is(message: &[u8], digest: &str) {
     assert_eq!(sha256(message).to_vec(), hex(digest));
