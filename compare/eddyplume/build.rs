@@ -1,4 +1,4 @@
-//! Finds libeddyplume.a and has it linked.
+//! Finds libeddyplume.a, has it linked, and names it to tests/header.rs.
 
 use std::env;
 use std::path::{Path, PathBuf};
@@ -19,6 +19,7 @@ fn main() {
     }
     println!("cargo:rustc-link-search=native={}", folder.display());
     println!("cargo:rustc-link-lib=static=eddyplume");
+    println!("cargo:rustc-env=EDDYPLUME_ARCHIVE={}", archive.display());
 }
 
 /// The folder named by EDDYPLUME_LIB, or the one where `rt staticlib` writes.

@@ -185,33 +185,43 @@ fn table(rows: &[Row]) -> String {
         "plain C",
         "C/ours"
     ));
-    for row in rows {
-        let Times { bytes, ours, independent, plain_c } = row.full;
-        let or_dash = |number: Option<f64>, digits| {
-            number.map_or("-".to_string(), |number| format!("{number:.digits$}"))
-        };
-        table.push_str(&format!(
-            "{:<8} {:<26} {:>9} {:>8.4} {:>8.4} {:>9.2} {:>12.4} {:>9.2} {:>8} {:>7}\n",
-            row.input,
-            row.call,
-            bytes,
-            ours,
-            row.half.ours,
-            ours / row.half.ours,
-            independent,
-            independent / ours,
-            or_dash(plain_c, 4),
-            or_dash(plain_c.map(|plain_c| plain_c / ours), 2),
-        ));
-    }
-    table.push_str("\nSignature check beside list check of the same data set and list:");
+    table.extend(rows.iter().map(line));
+    table.push_str(&signed_beside_listed(rows));
+    table
+}
+
+/// A row as a line of the table.
+fn line(row: &Row) -> String {
+    let Times { bytes, ours, independent, plain_c } = row.full;
+    let or_dash = |number: Option<f64>, digits| {
+        number.map_or("-".to_string(), |number| format!("{number:.digits$}"))
+    };
+    format!(
+        "{:<8} {:<26} {:>9} {:>8.4} {:>8.4} {:>9.2} {:>12.4} {:>9.2} {:>8} {:>7}\n",
+        row.input,
+        row.call,
+        bytes,
+        ours,
+        row.half.ours,
+        ours / row.half.ours,
+        independent,
+        independent / ours,
+        or_dash(plain_c, 4),
+        or_dash(plain_c.map(|plain_c| plain_c / ours), 2),
+    )
+}
+
+/// The line under the table.
+fn signed_beside_listed(rows: &[Row]) -> String {
+    let mut line =
+        "\nSignature check beside list check of the same data set and list:".to_string();
     for signed in rows.iter().filter(|row| row.call == SIGNATURE_CHECK) {
         let listed = rows
             .iter()
             .find(|row| row.input == signed.input && row.call == SIGNED_LIST_CHECK)
             .map_or(f64::NAN, |row| row.full.ours);
-        table.push_str(&format!(" {} {:.2}", signed.input, signed.full.ours / listed));
+        line.push_str(&format!(" {} {:.2}", signed.input, signed.full.ours / listed));
     }
-    table.push('\n');
-    table
+    line.push('\n');
+    line
 }

@@ -18,17 +18,8 @@ pub fn chart(rows: &[Row]) -> String {
     let mut body = legend();
     let mut top = HEAD;
     for row in rows {
-        let bars = bars(row);
-        let height = BAR * bars.len() as f64;
-        let label = format!("{}, {}", row.input, row.call);
-        body.push_str(&text(LABEL_WIDTH - 8.0, top + height / 2.0 + 4.0, "end", &label));
-        for (index, (kind, time)) in bars.into_iter().enumerate() {
-            let (y, width) = (top + BAR * index as f64, BAR_WIDTH * time / longest);
-            body.push_str(&bar(LABEL_WIDTH, y, width.max(0.5), BAR - 1.0, KINDS[kind].1));
-            let x = LABEL_WIDTH + width + 4.0;
-            body.push_str(&text(x, y + BAR - 1.5, "start", &format!("{time:.2}")));
-        }
-        top += height + GAP;
+        body.push_str(&group(row, top, longest));
+        top += BAR * bars(row).len() as f64 + GAP;
     }
     let width = LABEL_WIDTH + BAR_WIDTH + NUMBER_WIDTH;
     format!(
@@ -36,6 +27,21 @@ pub fn chart(rows: &[Row]) -> String {
          width=\"{width}\" height=\"{top}\" font-family=\"sans-serif\" font-size=\"10\">\n\
          <rect width=\"100%\" height=\"100%\" fill=\"white\"/>\n{body}</svg>\n"
     )
+}
+
+/// The label of a row and its bars with their times, from `top` down.
+fn group(row: &Row, top: f64, longest: f64) -> String {
+    let bars = bars(row);
+    let middle = top + BAR * bars.len() as f64 / 2.0;
+    let label = format!("{}, {}", row.input, row.call);
+    let mut group = text(LABEL_WIDTH - 8.0, middle + 4.0, "end", &label);
+    for (index, (kind, time)) in bars.into_iter().enumerate() {
+        let (y, width) = (top + BAR * index as f64, BAR_WIDTH * time / longest);
+        group.push_str(&bar(LABEL_WIDTH, y, width.max(0.5), BAR - 1.0, KINDS[kind].1));
+        let x = LABEL_WIDTH + width + 4.0;
+        group.push_str(&text(x, y + BAR - 1.5, "start", &format!("{time:.2}")));
+    }
+    group
 }
 
 /// The bars of a row: which kind, and its time.

@@ -5,6 +5,8 @@ mod arguments;
 mod bench;
 mod calls;
 mod chart;
+mod differences;
+mod digest_calls;
 mod files;
 mod guarded;
 mod plain_sha256;

@@ -27,14 +27,14 @@ pub fn run(words: &[String]) -> Result<ExitCode, Stop> {
         let (printed, status) =
             fed(program, &input).map_err(|error| Stop::failed(program, error))?;
         *counts.entry(wanted.number).or_insert(0) += 1;
-        if printed != wanted.text || !status.success() {
-            differing += 1;
-            if differing <= MOST_SHOWN {
-                eprintln!("# {status}, printed {:?}", String::from_utf8_lossy(&printed));
-                let case = Case::Frame { input };
-                eprintln!("{}", case.write(&format!("frame_{seed}_{index}")));
-            }
+        if printed == wanted.text && status.success() {
+            continue;
         }
+        if differing < MOST_SHOWN {
+            eprintln!("# {status}, printed {:?}", String::from_utf8_lossy(&printed));
+            eprintln!("{}", Case::Frame { input }.write(&format!("frame_{seed}_{index}")));
+        }
+        differing += 1;
     }
 
     for (number, count) in counts {

@@ -3,6 +3,7 @@
 
 use crate::arguments::{Arguments, Stop};
 use crate::calls::calls;
+use crate::differences::Call;
 use crate::tally::Tally;
 use inputs::cases::case;
 use inputs::random::Random;
@@ -23,33 +24,36 @@ pub fn run(words: &[String]) -> Result<ExitCode, Stop> {
     let mut differing = 0;
     for index in 0..cases {
         let case = case(seed, index);
-        let mut fill = Random::of_case(!seed, index);
-        let mut differs = false;
-        for call in calls(&case, &mut fill) {
-            for outcome in call.outcomes {
-                tally.count(call.function, outcome);
-            }
-            if !call.differences.is_empty() && differing < MOST_SHOWN {
-                eprintln!("# {}: {}", call.function.name(), call.differences.join("; "));
-            }
-            differs |= !call.differences.is_empty();
+        let calls = calls(&case, &mut Random::of_case(!seed, index));
+        tally.count_all(&calls);
+        if calls.iter().all(|call| call.differences.is_empty()) {
+            continue;
         }
-        if differs {
-            if differing < MOST_SHOWN {
-                eprintln!("{}", case.write(&format!("case_{seed}_{index}")));
-            }
-            differing += 1;
+        if differing < MOST_SHOWN {
+            show(&calls, &case.write(&format!("case_{seed}_{index}")));
         }
+        differing += 1;
     }
 
     print!("{}", tally.table());
     println!("{cases} cases of seed {seed}: {differing} differ");
-    let missing = tally.missing();
-    if cases >= ENOUGH_CASES {
-        for (function, outcome) in &missing {
-            println!("{} never gave {outcome}", function.name());
-        }
-    }
-    let complete = cases < ENOUGH_CASES || missing.is_empty();
+    let complete = cases < ENOUGH_CASES || all_occurred(&tally);
     Ok(ExitCode::from(u8::from(differing > 0 || !complete)))
+}
+
+/// Writes what differs as comments, and the case as a line of a case file.
+fn show(calls: &[Call], line: &str) {
+    for call in calls.iter().filter(|call| !call.differences.is_empty()) {
+        eprintln!("# {}: {}", call.function.name(), call.differences.join("; "));
+    }
+    eprintln!("{line}");
+}
+
+/// Whether everything that can be answered occurred; prints what did not.
+fn all_occurred(tally: &Tally) -> bool {
+    let missing = tally.missing();
+    for (function, outcome) in &missing {
+        println!("{} never gave {outcome}", function.name());
+    }
+    missing.is_empty()
 }

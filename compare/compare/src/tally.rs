@@ -1,6 +1,7 @@
 //! How often each function gave each number.
 
-use std::collections::BTreeMap;
+use crate::differences::Call;
+use std::collections::{BTreeMap, BTreeSet};
 
 #[derive(Clone, Copy, Debug, PartialEq, Eq, PartialOrd, Ord)]
 pub enum Function {
@@ -78,7 +79,14 @@ pub struct Tally {
 }
 
 impl Tally {
-    pub fn count(&mut self, function: Function, outcome: Outcome) {
+    /// Counts what each of the calls gave.
+    pub fn count_all(&mut self, calls: &[Call]) {
+        for call in calls {
+            call.outcomes.iter().for_each(|&outcome| self.count(call.function, outcome));
+        }
+    }
+
+    fn count(&mut self, function: Function, outcome: Outcome) {
         *self.counts.entry((function, outcome)).or_insert(0) += 1;
     }
 
@@ -101,27 +109,32 @@ impl Tally {
     /// One row for each number and word, one column for each function; `-`
     /// where a function cannot say it.
     pub fn table(&self) -> String {
-        let mut rows: Vec<Outcome> =
-            Function::ALL.into_iter().flat_map(|function| function.outcomes()).collect();
-        rows.extend(self.counts.keys().map(|&(_, outcome)| outcome));
-        rows.sort_unstable();
-        rows.dedup();
-        let mut table = format!("{:>8}", "");
-        for function in Function::ALL {
-            table.push_str(&format!(" {:>16}", function.name()));
-        }
-        for row in rows {
-            table.push_str(&format!("\n{:>8}", row.to_string()));
-            for function in Function::ALL {
-                let count = self.of(function, row);
-                let possible = count > 0 || function.outcomes().contains(&row);
-                let cell = if possible { count.to_string() } else { "-".to_string() };
-                table.push_str(&format!(" {cell:>16}"));
-            }
-        }
-        table.push('\n');
-        table
+        let possible = Function::ALL.into_iter().flat_map(Function::outcomes);
+        let occurred = self.counts.keys().map(|&(_, outcome)| outcome);
+        let outcomes: BTreeSet<Outcome> = possible.chain(occurred).collect();
+        let head = row("", |function| function.name().to_string());
+        let rows = outcomes.into_iter().map(|outcome| self.row(outcome));
+        std::iter::once(head).chain(rows).collect()
     }
+
+    /// How often each function gave this.
+    fn row(&self, outcome: Outcome) -> String {
+        row(&outcome.to_string(), |function| {
+            let count = self.of(function, outcome);
+            let possible = count > 0 || function.outcomes().contains(&outcome);
+            if possible {
+                count.to_string()
+            } else {
+                "-".to_string()
+            }
+        })
+    }
+}
+
+/// A line of the table: its name, and a cell for each function.
+fn row(name: &str, cell: impl Fn(Function) -> String) -> String {
+    let cells = Function::ALL.into_iter().map(|function| format!(" {:>16}", cell(function)));
+    format!("{name:>8}{}\n", cells.collect::<String>())
 }
 
 #[cfg(test)]

@@ -1,4 +1,4 @@
-//! The functions of include/eddyplume.h.
+//! The functions of include/eddyplume.h; tests/header.rs holds their types to it.
 
 extern "C" {
     pub fn eddyplume_list_stream(

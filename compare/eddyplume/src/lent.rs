@@ -6,18 +6,27 @@
 
 use crate::header;
 
+/// Calls a function of list mode or signature mode with its arguments in the
+/// header's order. A slice goes as pointer and length, an array as pointer.
+macro_rules! call_mode {
+    (
+        $function:ident $(of $uid:ident, $numbered:ident, $number:ident;)?
+        reads $($read:ident),*; writes $written:ident; answers $($array:ident),*
+    ) => {
+        unsafe {
+            header::$function(
+                $($uid.as_ptr(), $uid.len(), $numbered, $number,)?
+                $($read.as_ptr(), $read.len(),)*
+                $written.as_mut_ptr(),
+                $written.len(),
+                $($array.as_mut_ptr()),*
+            )
+        }
+    };
+}
+
 pub fn list_stream(list: &[u8], data: &[u8], out: &mut [u8], answer: &mut [u64; 3]) {
-    unsafe {
-        header::eddyplume_list_stream(
-            list.as_ptr(),
-            list.len(),
-            data.as_ptr(),
-            data.len(),
-            out.as_mut_ptr(),
-            out.len(),
-            answer.as_mut_ptr(),
-        )
-    }
+    call_mode!(eddyplume_list_stream reads list, data; writes out; answers answer)
 }
 
 pub fn list_check(
@@ -28,20 +37,10 @@ pub fn list_check(
     answer: &mut [u64; 3],
     verdict: &mut [u8; 1],
 ) {
-    unsafe {
-        header::eddyplume_list_check(
-            list.as_ptr(),
-            list.len(),
-            data.as_ptr(),
-            data.len(),
-            expected.as_ptr(),
-            expected.len(),
-            work.as_mut_ptr(),
-            work.len(),
-            answer.as_mut_ptr(),
-            verdict.as_mut_ptr(),
-        )
-    }
+    call_mode!(
+        eddyplume_list_check
+        reads list, data, expected; writes work; answers answer, verdict
+    )
 }
 
 pub fn signature_stream(
@@ -51,19 +50,11 @@ pub fn signature_stream(
     out: &mut [u8],
     answer: &mut [u64; 3],
 ) {
-    unsafe {
-        header::eddyplume_signature_stream(
-            uid.as_ptr(),
-            uid.len(),
-            which.is_some(),
-            which.unwrap_or(0), // not read where `numbered` is false
-            data.as_ptr(),
-            data.len(),
-            out.as_mut_ptr(),
-            out.len(),
-            answer.as_mut_ptr(),
-        )
-    }
+    let (numbered, number) = numbered(which);
+    call_mode!(
+        eddyplume_signature_stream of uid, numbered, number;
+        reads data; writes out; answers answer
+    )
 }
 
 pub fn signature_check(
@@ -75,22 +66,17 @@ pub fn signature_check(
     answer: &mut [u64; 3],
     verdict: &mut [u8; 1],
 ) {
-    unsafe {
-        header::eddyplume_signature_check(
-            uid.as_ptr(),
-            uid.len(),
-            which.is_some(),
-            which.unwrap_or(0), // not read where `numbered` is false
-            data.as_ptr(),
-            data.len(),
-            expected.as_ptr(),
-            expected.len(),
-            work.as_mut_ptr(),
-            work.len(),
-            answer.as_mut_ptr(),
-            verdict.as_mut_ptr(),
-        )
-    }
+    let (numbered, number) = numbered(which);
+    call_mode!(
+        eddyplume_signature_check of uid, numbered, number;
+        reads data, expected; writes work; answers answer, verdict
+    )
+}
+
+/// Whether a signature is numbered, and its number, which is not read where it
+/// is not.
+fn numbered(which: Option<u64>) -> (bool, u64) {
+    (which.is_some(), which.unwrap_or(0))
 }
 
 /// `part` is present (0 or 1), start and length of the value in `data`.

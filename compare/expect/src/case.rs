@@ -43,11 +43,20 @@ impl Case {
     /// understood.
     pub fn read(fields: &[&[u8]]) -> Option<Case> {
         let (&kind, arguments) = fields.split_first()?;
-        Some(match (kind, arguments) {
-            (b"read", &[data]) => Case::Read { data: read_bytes(data)? },
+        match (kind, arguments) {
+            (b"read", &[data]) => Some(Case::Read { data: read_bytes(data)? }),
             (b"lookup", &[tag, data]) => {
-                Case::Lookup { tag: read_tag(tag)?, data: read_bytes(data)? }
+                Some(Case::Lookup { tag: read_tag(tag)?, data: read_bytes(data)? })
             }
+            (b"frame", &[input]) => Some(Case::Frame { input: read_bytes(input)? }),
+            (b"digest" | b"feed" | b"finish", _) => Case::read_digest(kind, arguments),
+            _ => Case::read_mode(kind, arguments),
+        }
+    }
+
+    /// A case of list mode or signature mode.
+    fn read_mode(kind: &[u8], arguments: &[&[u8]]) -> Option<Case> {
+        Some(match (kind, arguments) {
             (b"list", &[room, list, data]) => Case::List {
                 room: read_decimal(room)?,
                 list: read_bytes(list)?,
@@ -72,7 +81,13 @@ impl Case {
                 which: read_which(which)?,
                 data: read_bytes(data)?,
             },
-            (b"frame", &[input]) => Case::Frame { input: read_bytes(input)? },
+            _ => return None,
+        })
+    }
+
+    /// A case of the digest or the running digest.
+    fn read_digest(kind: &[u8], arguments: &[&[u8]]) -> Option<Case> {
+        Some(match (kind, arguments) {
             (b"digest", parts) if !parts.is_empty() => Case::Digest {
                 parts: parts.iter().map(|part| read_bytes(part)).collect::<Option<_>>()?,
             },

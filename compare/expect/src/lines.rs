@@ -2,10 +2,9 @@
 
 use crate::case::{write_state, Case, Expected};
 use crate::spelling::write_hex;
-use independent::sha256::{sha256, RunningDigest};
-use independent::{
-    frame, list_mode, lookup, reading, signature_mode, CheckAnswer, StreamAnswer, Verdict,
-};
+use independent::lookup::{self, Lookup};
+use independent::sha256::{sha256, Finished, RunningDigest};
+use independent::{frame, list_mode, reading, signature_mode, CheckAnswer, StreamAnswer, Verdict};
 
 /// What is printed for one line of the case file.
 pub fn expected_lines(line: &[u8]) -> Vec<u8> {
@@ -28,12 +27,7 @@ fn printed(case: &Case) -> Vec<u8> {
             let reading = reading::read(data);
             line(format!("{} {}", reading.number, reading.position))
         }
-        Case::Lookup { tag, data } => {
-            let found = lookup::lookup(data, *tag);
-            let stands = if found.stands { "yes" } else { "no" };
-            let head = format!("{} {} {} {}", found.number, found.position, stands, found.length);
-            line_with_hex(head, found.value)
-        }
+        Case::Lookup { tag, data } => lookup_line(lookup::lookup(data, *tag)),
         Case::List { room, list, data } => stream_line(list_mode::stream(data, list, *room)),
         Case::ListCheck { room, expected, list, data } => {
             let expected = expected_digest(expected, || list_mode::stream(data, list, *room));
@@ -49,20 +43,16 @@ fn printed(case: &Case) -> Vec<u8> {
         }
         Case::Frame { input } => [b"\n".to_vec(), frame::run(input).text].concat(),
         Case::Digest { parts } => {
-            let finished = parts
+            let fed = parts
                 .iter()
-                .fold(RunningDigest::start(), |running, part| running.feed(part).next)
-                .finish();
-            line_with_hex(finished.number.to_string(), &finished.digest)
+                .fold(RunningDigest::start(), |running, part| running.feed(part).next);
+            finished_line(fed.finish())
         }
         Case::Feed { state, bytes } => {
             let fed = state.feed(bytes);
             line(format!("{} {}", fed.number, write_state(&fed.next)))
         }
-        Case::Finish { state } => {
-            let finished = state.finish();
-            line_with_hex(finished.number.to_string(), &finished.digest)
-        }
+        Case::Finish { state } => finished_line(state.finish()),
     }
 }
 
@@ -75,6 +65,13 @@ pub fn expected_digest(expected: &Expected, stream: impl FnOnce() -> StreamAnswe
             None => vec![0; 32],
         },
     }
+}
+
+/// The line of `lookup`.
+fn lookup_line(found: Lookup) -> Vec<u8> {
+    let stands = if found.stands { "yes" } else { "no" };
+    let head = format!("{} {} {} {}", found.number, found.position, stands, found.length);
+    line_with_hex(head, found.value)
 }
 
 /// The line of `list` and `signature`.
@@ -91,6 +88,11 @@ fn check_line(answer: CheckAnswer) -> Vec<u8> {
         Verdict::Differs => "differs",
     };
     line(format!("{} {} {} {verdict}", answer.number, answer.position, answer.length))
+}
+
+/// The line of `digest` and `finish`.
+fn finished_line(finished: Finished) -> Vec<u8> {
+    line_with_hex(finished.number.to_string(), &finished.digest)
 }
 
 /// `head`, then a space and the bytes in lower case hex where there are any.

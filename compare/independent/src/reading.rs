@@ -158,6 +158,17 @@ impl Extent {
     fn left(self, at: usize) -> usize {
         self.end - at
     }
+
+    /// The extent inside a value or item of this length: its own where the
+    /// length is defined, the nearest enclosing defined one where it is not
+    /// (a). The length is checked.
+    fn inside(self, start: usize, length: u32) -> Extent {
+        if length == UNDEFINED {
+            Extent { end: self.end, closed: true }
+        } else {
+            Extent { end: start + length as usize, closed: false }
+        }
+    }
 }
 
 fn tag_at(data: &[u8], at: usize) -> Tag {
@@ -204,7 +215,7 @@ fn read_data_set(
     Ok((DataSet { elements }, at))
 }
 
-/// "Checks at one element, in order"; the 8 bytes are there.
+/// "Checks at one element, in order"; the 8 bytes are there (2).
 fn read_element(
     data: &[u8],
     at: usize,
@@ -212,72 +223,20 @@ fn read_element(
     before: Option<Tag>,
     level: usize,
 ) -> Result<Element<'_>, Refusal> {
-    let fault = |number| Err(Refusal::at(number, at));
-
-    // "group FFFE, 3"
     let tag = tag_at(data, at);
+    // "group FFFE, 3"
     if tag.group() == 0xFFFE {
-        return fault(3);
+        return Err(Refusal::at(3, at));
     }
     // "tag not above the tag before it in the same data set, 4"
-    if let Some(before) = before {
-        if tag <= before {
-            return fault(4);
-        }
+    if before.is_some_and(|before| tag <= before) {
+        return Err(Refusal::at(4, at));
     }
-    // "VR in neither list, 5"
     let vr = [data[at + 4], data[at + 5]];
-    let short = SHORT_FORM.contains(&&vr);
-    let long = LONG_FORM.contains(&&vr);
-    if !short && !long {
-        return fault(5);
-    }
-    let (length, value_offset) = if long {
-        // "long form with fewer than 12 bytes left, 2"
-        if extent.left(at) < 12 {
-            return fault(2);
-        }
-        // "reserved not zero, 6"
-        if data[at + 6] != 0 || data[at + 7] != 0 {
-            return fault(6);
-        }
-        (four_byte_length_at(data, at + 8), at + 12)
-    } else {
-        (two_byte_length_at(data, at + 6), at + 8)
-    };
-    // "length odd, or FFFFFFFF on a VR other than SQ and OB, 7";
-    // "FFFFFFFF (undefined) is good for SQ and OB only"
-    let sequence = vr == *b"SQ";
-    let undefined = length == UNDEFINED && (sequence || vr == *b"OB");
-    if !undefined && length % 2 == 1 {
-        return fault(7);
-    }
-    // "SQ at level 16, 8"
-    if sequence && level == REFUSED_LEVEL {
-        return fault(8);
-    }
-    // "value past the extent, 2"
-    if !undefined && length as usize > extent.left(value_offset) {
-        return fault(2);
-    }
-
-    // The extent inside the value: its own where the length is defined, the
-    // nearest enclosing defined one where it is not (a).
-    let inside = if undefined {
-        Extent { end: extent.end, closed: true }
-    } else {
-        Extent { end: value_offset + length as usize, closed: false }
-    };
-    let (content, value_end, end) = if sequence {
-        let (items, value_end, end) = read_items(data, value_offset, inside, level)?;
-        (Content::Items(items), value_end, end)
-    } else if undefined {
-        let (fragments, value_end, end) = read_fragments(data, value_offset, inside)?;
-        (Content::Fragments(fragments), value_end, end)
-    } else {
-        // "Their bytes aren't looked into, nor is the value of UN."
-        (Content::Bytes, inside.end, inside.end)
-    };
+    let (length, value_offset) = read_length(data, at, extent, vr)?; // 5, 2, 6
+    check_length(at, vr, length, extent.left(value_offset), level)?; // 7, 8, 2
+    let inside = extent.inside(value_offset, length);
+    let (content, value_end, end) = read_content(data, value_offset, vr, inside, level)?;
     Ok(Element {
         tag,
         vr,
@@ -287,6 +246,82 @@ fn read_element(
         value: &data[value_offset..value_end],
         content,
     })
+}
+
+/// The checks of the VR and its form: 5, 2, 6. Gives the length and where the
+/// value starts.
+fn read_length(
+    data: &[u8],
+    at: usize,
+    extent: Extent,
+    vr: [u8; 2],
+) -> Result<(u32, usize), Refusal> {
+    let short = SHORT_FORM.contains(&&vr);
+    let long = LONG_FORM.contains(&&vr);
+    // "VR in neither list, 5"
+    if !short && !long {
+        return Err(Refusal::at(5, at));
+    }
+    if short {
+        return Ok((two_byte_length_at(data, at + 6), at + 8));
+    }
+    // "long form with fewer than 12 bytes left, 2"
+    if extent.left(at) < 12 {
+        return Err(Refusal::at(2, at));
+    }
+    // "reserved not zero, 6"
+    if data[at + 6] != 0 || data[at + 7] != 0 {
+        return Err(Refusal::at(6, at));
+    }
+    Ok((four_byte_length_at(data, at + 8), at + 12))
+}
+
+/// The checks of the length: 7, 8, 2; `left` is what the extent has left
+/// behind the header.
+fn check_length(
+    at: usize,
+    vr: [u8; 2],
+    length: u32,
+    left: usize,
+    level: usize,
+) -> Result<(), Refusal> {
+    // "length odd, or FFFFFFFF on a VR other than SQ and OB, 7";
+    // "FFFFFFFF (undefined) is good for SQ and OB only"
+    let undefined = length == UNDEFINED && (vr == *b"SQ" || vr == *b"OB");
+    if !undefined && length % 2 == 1 {
+        return Err(Refusal::at(7, at));
+    }
+    // "SQ at level 16, 8"
+    if vr == *b"SQ" && level == REFUSED_LEVEL {
+        return Err(Refusal::at(8, at));
+    }
+    // "value past the extent, 2"
+    if !undefined && length as usize > left {
+        return Err(Refusal::at(2, at));
+    }
+    Ok(())
+}
+
+/// What a value holds, its end (without a closing delimiter), and where
+/// reading goes on behind it.
+fn read_content(
+    data: &[u8],
+    start: usize,
+    vr: [u8; 2],
+    inside: Extent,
+    level: usize,
+) -> Result<(Content<'_>, usize, usize), Refusal> {
+    if vr == *b"SQ" {
+        let (items, value_end, end) = read_items(data, start, inside, level)?;
+        Ok((Content::Items(items), value_end, end))
+    } else if inside.closed {
+        // Of the other VRs only OB may be undefined (7).
+        let (fragments, value_end, end) = read_fragments(data, start, inside)?;
+        Ok((Content::Fragments(fragments), value_end, end))
+    } else {
+        // "Their bytes aren't looked into, nor is the value of UN."
+        Ok((Content::Bytes, inside.end, inside.end))
+    }
 }
 
 /// The header in an item's or a fragment's place.
@@ -347,11 +382,10 @@ fn read_items(
             Header::Closing => return Ok((items, at, at + 8)),
             Header::Item { length } => length,
         };
-        let inside = if length == UNDEFINED {
-            Extent { end: extent.end, closed: true }
-        } else {
-            Extent { end: check_item_length(at, length, extent)?, closed: false }
-        };
+        if length != UNDEFINED {
+            check_item_length(at, length, extent)?;
+        }
+        let inside = extent.inside(at + 8, length);
         // "elements in the items of a level n sequence are at level n+1"
         let (item, end) = read_data_set(data, at + 8, inside, level + 1)?;
         items.push(item);

@@ -126,8 +126,9 @@ pub fn sha256(bytes: &[u8]) -> [u8; 32] {
     RunningDigest::start().feed(bytes).next.finish().digest
 }
 
-/// One block (FIPS 180-4, 6.2.2); "sums are taken modulo two to the 32".
-fn compress(words: [u32; 8], block: &[u8; 64]) -> [u32; 8] {
+/// The message schedule of one block (FIPS 180-4, 6.2.2, step 1); "sums are
+/// taken modulo two to the 32".
+fn message_schedule(block: &[u8; 64]) -> [u32; 64] {
     let mut w = [0u32; 64];
     for (t, bytes) in block.chunks_exact(4).enumerate() {
         w[t] = u32::from_be_bytes([bytes[0], bytes[1], bytes[2], bytes[3]]);
@@ -138,7 +139,12 @@ fn compress(words: [u32; 8], block: &[u8; 64]) -> [u32; 8] {
             .wrapping_add(small_sigma_0(w[t - 15]))
             .wrapping_add(w[t - 16]);
     }
+    w
+}
 
+/// One block (FIPS 180-4, 6.2.2); "sums are taken modulo two to the 32".
+fn compress(words: [u32; 8], block: &[u8; 64]) -> [u32; 8] {
+    let w = message_schedule(block);
     let [mut a, mut b, mut c, mut d, mut e, mut f, mut g, mut h] = words;
     for t in 0..64 {
         let t1 = h

@@ -1,6 +1,6 @@
 //! "The stream": the signed stream of an element.
 
-use crate::reading::{Content, Element};
+use crate::reading::{Content, DataSet, Element};
 use crate::tag_list::is_barred;
 use crate::{Refusal, StreamAnswer};
 
@@ -53,16 +53,7 @@ impl Writer {
             Content::Items(items) => {
                 self.stream.extend_from_slice(&element.bytes[..8]);
                 for item in items {
-                    self.stream.extend_from_slice(&ITEM_TAG);
-                    for inner in &item.elements {
-                        // "Barred elements inside a sequence are left out at
-                        // every depth."
-                        if is_barred(inner.tag) {
-                            continue;
-                        }
-                        self.unknown_met |= inner.is_unknown();
-                        self.write(inner);
-                    }
+                    self.write_item(item);
                 }
                 self.stream.extend_from_slice(&SEQUENCE_DELIMITATION_TAG);
             }
@@ -75,6 +66,19 @@ impl Writer {
                 }
                 self.stream.extend_from_slice(&SEQUENCE_DELIMITATION_TAG);
             }
+        }
+    }
+
+    /// "for each item its four tag bytes and its elements by these rules".
+    fn write_item(&mut self, item: &DataSet) {
+        self.stream.extend_from_slice(&ITEM_TAG);
+        for element in &item.elements {
+            // "Barred elements inside a sequence are left out at every depth."
+            if is_barred(element.tag) {
+                continue;
+            }
+            self.unknown_met |= element.is_unknown();
+            self.write(element);
         }
     }
 

@@ -1,9 +1,9 @@
 //! Published SHA-256 vectors (FIPS 180-4 examples), the constants, and the
 //! running digest's number 25.
 
-mod support;
+mod common;
+use common::hex;
 use independent::sha256::*;
-use support::hex;
 
 fn is(message: &[u8], digest: &str) {
     assert_eq!(sha256(message).to_vec(), hex(digest));

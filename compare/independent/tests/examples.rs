@@ -1,8 +1,8 @@
 //! The examples 1 to 11 of 01.
 
-mod support;
+mod common;
+use common::*;
 use independent::{frame, list_mode, StreamAnswer};
-use support::*;
 
 const ROOM: usize = 65_536;
 

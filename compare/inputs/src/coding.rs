@@ -2,6 +2,7 @@
 //! trees may be anything: what is coded need not be well-formed.
 
 use independent::reading::{Tag, ITEM, ITEM_DELIMITATION, LONG_FORM, SEQUENCE_DELIMITATION};
+use std::ops::Range;
 
 const UNDEFINED: u32 = 0xFFFF_FFFF;
 
@@ -107,6 +108,29 @@ pub fn code(elements: &[Element]) -> Coded {
 
 impl Coded {
     fn element(&mut self, element: &Element) {
+        let length = self.element_header(element);
+        match &element.value {
+            Value::Bytes(bytes) => {
+                self.bytes.extend_from_slice(bytes);
+                self.define(length);
+            }
+            Value::Items { items, undefined } => {
+                for item in items {
+                    self.item(item);
+                }
+                self.end(*undefined, SEQUENCE_DELIMITATION, length);
+            }
+            Value::Fragments(fragments) => {
+                for fragment in fragments {
+                    self.fragment(fragment);
+                }
+                self.delimiter(SEQUENCE_DELIMITATION);
+            }
+        }
+    }
+
+    /// An element's header; gives its length field, undefined as yet.
+    fn element_header(&mut self, element: &Element) -> Range<usize> {
         let header = if LONG_FORM.contains(&&element.vr) { Header::Long } else { Header::Short };
         self.start(Tag(element.tag), header);
         self.bytes.extend_from_slice(&element.vr);
@@ -114,45 +138,31 @@ impl Coded {
             self.bytes.extend_from_slice(&[0, 0]);
         }
         let (_, size) = header.length_field();
-        let length_at = self.bytes.len();
-        self.bytes.extend_from_slice(&UNDEFINED.to_le_bytes()[..size]);
-        match &element.value {
-            Value::Bytes(bytes) => {
-                self.bytes.extend_from_slice(bytes);
-                self.define(length_at, size);
-            }
-            Value::Items { items, undefined } => {
-                for item in items {
-                    self.item(item);
-                }
-                if *undefined {
-                    self.delimiter(SEQUENCE_DELIMITATION);
-                } else {
-                    self.define(length_at, size);
-                }
-            }
-            Value::Fragments(fragments) => {
-                for fragment in fragments {
-                    self.start(ITEM, Header::Item);
-                    self.bytes.extend_from_slice(&(fragment.len() as u32).to_le_bytes());
-                    self.bytes.extend_from_slice(fragment);
-                }
-                self.delimiter(SEQUENCE_DELIMITATION);
-            }
-        }
+        self.undefined_length(size)
     }
 
     fn item(&mut self, item: &Item) {
         self.start(ITEM, Header::Item);
-        let length_at = self.bytes.len();
-        self.bytes.extend_from_slice(&UNDEFINED.to_le_bytes());
+        let length = self.undefined_length(4);
         for element in &item.elements {
             self.element(element);
         }
-        if item.undefined {
-            self.delimiter(ITEM_DELIMITATION);
+        self.end(item.undefined, ITEM_DELIMITATION, length);
+    }
+
+    fn fragment(&mut self, fragment: &[u8]) {
+        self.start(ITEM, Header::Item);
+        let length = self.undefined_length(4);
+        self.bytes.extend_from_slice(fragment);
+        self.define(length);
+    }
+
+    /// Ends a sequence or an item: by a delimiter, or by setting its length.
+    fn end(&mut self, undefined: bool, delimiter: Tag, length: Range<usize>) {
+        if undefined {
+            self.delimiter(delimiter);
         } else {
-            self.define(length_at, 4);
+            self.define(length);
         }
     }
 
@@ -167,10 +177,17 @@ impl Coded {
         self.bytes.extend_from_slice(&tag_bytes(tag.0));
     }
 
+    /// Writes a length field of FFFF or FFFFFFFF; gives where it stands.
+    fn undefined_length(&mut self, size: usize) -> Range<usize> {
+        let start = self.bytes.len();
+        self.bytes.extend_from_slice(&UNDEFINED.to_le_bytes()[..size]);
+        start..start + size
+    }
+
     /// Sets a length field to what was written behind it.
-    fn define(&mut self, length_at: usize, size: usize) {
-        let length = (self.bytes.len() - length_at - size) as u32;
-        self.bytes[length_at..length_at + size].copy_from_slice(&length.to_le_bytes()[..size]);
+    fn define(&mut self, field: Range<usize>) {
+        let (size, length) = (field.len(), (self.bytes.len() - field.end) as u32);
+        self.bytes[field].copy_from_slice(&length.to_le_bytes()[..size]);
     }
 }
 

@@ -37,13 +37,13 @@ pub fn state(random: &mut Random) -> RunningDigest {
     };
     let mut state = RunningDigest { words, waiting, count, total };
     if random.chance(25) {
-        spoil(random, &mut state);
+        make_impossible(random, &mut state);
     }
     state
 }
 
 /// Makes a running digest impossible.
-fn spoil(random: &mut Random, state: &mut RunningDigest) {
+fn make_impossible(random: &mut Random, state: &mut RunningDigest) {
     match random.below(6) {
         0 => state.count = (state.count + 1) % 64,
         1 => state.count += 64,

@@ -17,7 +17,7 @@ pub fn frame(seed: u64, index: u64) -> Vec<u8> {
         framed(&list, &data)
     };
     if random.chance(35) {
-        spoil(random, &mut input);
+        make_bad(random, &mut input);
     }
     input
 }
@@ -40,8 +40,8 @@ fn largest(random: &mut Random) -> Vec<u8> {
     input
 }
 
-/// Changes the version, a length, or the end.
-fn spoil(random: &mut Random, input: &mut Vec<u8>) {
+/// Makes a frame bad: changes the version, a length, or the end.
+fn make_bad(random: &mut Random, input: &mut Vec<u8>) {
     match random.below(6) {
         0 => input[0] = random.pick(&[0, 2, 255]),
         1 => {

@@ -8,7 +8,9 @@ const PREFIX: &[u8] = b"DICM";
 const META_GROUP: [u8; 2] = [0x02, 0x00];
 const TRANSFER_SYNTAX_UID: [u8; 2] = [0x10, 0x00];
 
-/// VRs with a four-byte length, the newer ones of PS3.5 included.
+/// The VRs with a four-byte length in PS3.5 as it is now. They are not the six of
+/// `independent::reading::LONG_FORM`: those are 01's, and 01 refuses the others,
+/// but file meta information may hold them, as UR in (0002,0026).
 const LONG_FORM: [&[u8; 2]; 13] = [
     b"OB", b"OD", b"OF", b"OL", b"OV", b"OW", b"SQ", b"SV", b"UC", b"UN", b"UR", b"UT", b"UV",
 ];
@@ -125,6 +127,15 @@ mod tests {
             assert_eq!(read.offset + data.len(), file.len());
         }
         assert_eq!(read(&file(&meta("1.2.840.10008.1.2.1"), &[])).unwrap().data, &[]);
+    }
+
+    #[test]
+    fn meta_information_with_a_vr_that_01_refuses() {
+        let presentation_address = b"\x02\0\x26\0UR\0\0\x04\0\0\0host";
+        let data = [0x08, 0, 0x60, 0, b'C', b'S', 0, 0];
+        let behind = [&presentation_address[..], &data].concat();
+        let file = file(&meta("1.2.840.10008.1.2.1"), &behind);
+        assert_eq!(read(&file).unwrap().data, &data);
     }
 
     #[test]

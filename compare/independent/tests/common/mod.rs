@@ -9,6 +9,13 @@ pub const ITEM_END: [u8; 8] = [0xFE, 0xFF, 0x0D, 0xE0, 0, 0, 0, 0];
 pub const SEQUENCE_END: [u8; 8] = [0xFE, 0xFF, 0xDD, 0xE0, 0, 0, 0, 0];
 pub const UNDEFINED: u32 = 0xFFFF_FFFF;
 
+/// Content Sequence and Pixel Data.
+pub const SQ: u32 = 0x0040_A730;
+pub const PIXELS: u32 = 0x7FE0_0010;
+
+/// Number and position of what is accepted.
+pub const GOOD: (u32, usize) = (0, 0);
+
 /// Bytes from hex; spaces and commas are passed over.
 pub fn hex(text: &str) -> Vec<u8> {
     let digits: Vec<u8> =
@@ -23,6 +30,11 @@ pub fn join(parts: &[&[u8]]) -> Vec<u8> {
 pub fn tag(tag: u32) -> Vec<u8> {
     let (group, element) = ((tag >> 16) as u16, tag as u16);
     join(&[&group.to_le_bytes(), &element.to_le_bytes()])
+}
+
+/// A tag list.
+pub fn list(tags: &[u32]) -> Vec<u8> {
+    tags.iter().flat_map(|&t| tag(t)).collect()
 }
 
 pub fn short(t: u32, vr: &str, value: &[u8]) -> Vec<u8> {

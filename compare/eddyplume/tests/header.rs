@@ -1,0 +1,106 @@
+//! include/eddyplume.h as a C compiler takes it: each of its functions has the
+//! type that src/header.rs declares, and example 1 of 01 runs through it.
+
+use std::fs;
+use std::path::{Path, PathBuf};
+use std::process::Command;
+
+const RUST: &str = include_str!("../src/header.rs");
+const HEADER: &str = include_str!("../../../include/eddyplume.h");
+
+/// The functions of src/header.rs, and the types of their arguments in C.
+fn functions() -> Vec<(&'static str, Vec<&'static str>)> {
+    let declarations = RUST.split("pub fn ").skip(1);
+    declarations.map(|declaration| function(declaration).expect(declaration)).collect()
+}
+
+/// `NAME(ARGUMENT: TYPE, ..);`
+fn function(declaration: &str) -> Option<(&str, Vec<&'static str>)> {
+    let (head, _) = declaration.split_once(");")?;
+    let (name, arguments) = head.split_once('(')?;
+    let types = arguments.split(',').filter_map(|argument| argument.split_once(": "));
+    Some((name, types.map(|(_, of)| c_type(of)).collect::<Option<_>>()?))
+}
+
+/// `size_t` and `uint64_t` are one type to a C compiler for x86-64, so that one
+/// in place of the other is not seen.
+fn c_type(of: &str) -> Option<&'static str> {
+    Some(match of {
+        "*const u8" => "const uint8_t *",
+        "*const u32" => "const uint32_t *",
+        "*const u64" => "const uint64_t *",
+        "*mut u8" => "uint8_t *",
+        "*mut u32" => "uint32_t *",
+        "*mut u64" => "uint64_t *",
+        "bool" => "bool",
+        "u32" => "uint32_t",
+        "u64" => "uint64_t",
+        "usize" => "size_t",
+        _ => return None,
+    })
+}
+
+/// A pointer to each function, of the type that src/header.rs declares.
+fn pointers() -> String {
+    functions()
+        .into_iter()
+        .map(|(name, types)| format!("void (*declared_{name})({}) = {name};\n", types.join(", ")))
+        .collect()
+}
+
+/// Compiles tests/header.c with these pointers and links the archive: the
+/// program, or what the compiler says.
+fn compiled(name: &str, pointers: &str) -> Result<PathBuf, String> {
+    let folder = Path::new(env!("CARGO_TARGET_TMPDIR")).join(name);
+    let program = folder.join("header");
+    fs::create_dir_all(&folder).unwrap();
+    fs::write(folder.join("declared.h"), pointers).unwrap();
+    let cc = Command::new("cc")
+        .current_dir(env!("CARGO_MANIFEST_DIR"))
+        .args(["-std=c99", "-Wall", "-Wextra", "-Wpedantic", "-Werror", "-I../../include", "-I"])
+        .arg(&folder)
+        .args(["tests/header.c", env!("EDDYPLUME_ARCHIVE"), "-o"])
+        .arg(&program)
+        .output()
+        .expect("a C compiler is needed: `cc`");
+    if !cc.status.success() {
+        return Err(String::from_utf8_lossy(&cc.stderr).into_owned());
+    }
+    Ok(program)
+}
+
+#[test]
+fn every_function_of_the_header_is_declared() {
+    let in_c = HEADER.lines().filter_map(|line| line.strip_prefix("void ")?.split('(').next());
+    let in_rust = functions().into_iter().map(|(name, _)| name);
+    assert_eq!(in_c.collect::<Vec<_>>(), in_rust.collect::<Vec<_>>());
+}
+
+#[test]
+fn example_1_in_c() {
+    let program = compiled("example_1", &pointers()).unwrap_or_else(|said| panic!("{said}"));
+    let ran = Command::new(&program).output().unwrap();
+    assert!(ran.status.success(), "{}", ran.status);
+    let printed = "0 0 10\n08006000435302004354eeee\n\
+                   The data set was read and the bytes to check were formed.\n";
+    assert_eq!(String::from_utf8_lossy(&ran.stdout), printed);
+}
+
+#[test]
+fn a_difference_of_types_does_not_compile() {
+    for (index, (of, other)) in [
+        ("bool", "uint8_t"),
+        ("const uint8_t *", "uint8_t *"),
+        ("uint32_t,", "uint64_t,"),
+        ("size_t, ", ""),
+        (", uint64_t *)", ", uint64_t)"),
+        ("eddyplume_lookup;", "eddyplume_look;"),
+    ]
+    .into_iter()
+    .enumerate()
+    {
+        let changed = pointers().replacen(of, other, 1);
+        assert_ne!(changed, pointers(), "{of}");
+        assert!(compiled(&format!("difference_{index}"), &changed).is_err(), "{of}");
+    }
+}

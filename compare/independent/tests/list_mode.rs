@@ -1,0 +1,91 @@
+//! The numbers 9 and 13 to 17 in list mode, each with its accepted neighbour,
+//! their order, and the reading (i).
+
+mod common;
+use common::*;
+use independent::reading::read;
+use independent::sha256::sha256;
+use independent::{list_mode, stream, Verdict};
+
+fn said(data: &[u8], list: &[u8]) -> (u32, usize) {
+    let answer = list_mode::stream(data, list, 1000);
+    (answer.number, answer.position)
+}
+
+fn unknown() -> Vec<u8> {
+    long(0x0009_0010, "UN", b"ab")
+}
+
+#[test]
+fn numbers_13_and_14() {
+    let data = join(&[&A, &unknown(), &B]);
+    assert_eq!(said(&data, &list(&[0x0008_0060, 0x0010_0010])), GOOD);
+    assert_eq!(said(&data, &list(&[0x0008_0060, 0x0009_0010, 0x0010_0011])), (14, 1));
+    assert_eq!(said(&data, &list(&[0x0008_0060, 0x0009_0009, 0x0009_0010])), (13, 1));
+    // A listed tag is not found inside an item.
+    assert_eq!(said(&long(SQ, "SQ", &item(&S)), &list(&[0x0008_0100])), (13, 0));
+}
+
+#[test]
+fn number_15() {
+    // (i) a UN that is barred itself, and one inside a barred element
+    for inner in [
+        unknown(),
+        long(0x0007_0010, "UN", &[]),
+        long(0x4FFE_0001, "SQ", &item(&unknown())),
+        long(SQ, "SQ", &item(&long(SQ, "SQ", &item(&unknown())))),
+    ] {
+        let data = long(SQ, "SQ", &join(&[&item(&S), &item(&inner)]));
+        assert_eq!(said(&data, &list(&[SQ])), (15, 0));
+        assert_eq!(said(&join(&[&A, &data]), &list(&[0x0008_0060])), GOOD);
+    }
+    // UN's value and fragments are not looked into.
+    let closed = open(PIXELS, "OB", &item(&unknown()));
+    assert_eq!(said(&closed, &list(&[PIXELS])), GOOD);
+}
+
+#[test]
+fn number_17() {
+    // It is met only by the bare stream of an element: both modes say 15 or
+    // leave the sequence out before.
+    let holding = long(SQ, "SQ", &item(&unknown()));
+    let tree = read(&holding).data_set.unwrap();
+    let answer = stream::signed_stream(&tree.elements[0]);
+    assert_eq!((answer.number, answer.position, answer.length), (17, 0, 0));
+}
+
+#[test]
+fn numbers_9_and_16_and_the_order() {
+    // 1 before 10; 10 to 12 before 2; 13 before 9; 9 before 16
+    let l = tag(0x0008_0060);
+    assert_eq!(list_mode::stream(&vec![0; 1_048_577], &[], 0).number, 1);
+    assert_eq!(list_mode::stream(&[0], &[], 0).number, 10);
+    assert_eq!(list_mode::stream(&[0], &tag(0x0008_0000), 0).number, 12);
+    assert_eq!(list_mode::check(&B, &l, &[], 0).number, 13);
+    assert_eq!(list_mode::check(&A, &l, &[0; 31], 0).number, 9);
+    assert_eq!(list_mode::check(&A, &l, &[0; 33], 10).number, 9);
+    let short_room = list_mode::check(&A, &l, &[0; 32], 9);
+    assert_eq!((short_room.number, short_room.length), (16, 0));
+    assert_eq!(short_room.verdict, Verdict::Neither);
+}
+
+#[test]
+fn verdicts() {
+    let l = tag(0x0008_0060);
+    let differs = list_mode::check(&A, &l, &[0; 32], 10);
+    assert_eq!((differs.number, differs.length, differs.verdict), (0, 10, Verdict::Differs));
+    let same = list_mode::check(&A, &l, &sha256(&A), 10);
+    assert_eq!((same.number, same.length, same.verdict), (0, 10, Verdict::Same));
+    assert_eq!(same.stream.unwrap(), A);
+}
+
+#[test]
+fn barred_elements_in_a_sequence_are_left_out() {
+    let barred = long(0x4FFE_0001, "SQ", &item(&S));
+    let deep = long(0x0040_A730, "SQ", &item(&join(&[&short(0x0008_0000, "UL", &[0; 4]), &S])));
+    let data = long(0x0040_A730, "SQ", &item(&join(&[&S, &deep, &barred])));
+    let inner = join(&[&deep[..8], &tag(0xFFFE_E000), &S, &tag(0xFFFE_E0DD)]);
+    let expected = join(&[&data[..8], &tag(0xFFFE_E000), &S, &inner, &tag(0xFFFE_E0DD)]);
+    let answer = list_mode::stream(&data, &tag(0x0040_A730), 1000);
+    assert_eq!(answer.stream.unwrap(), expected);
+}
