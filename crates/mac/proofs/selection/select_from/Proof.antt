@@ -42,8 +42,8 @@ returns-3 c = search (steps.select-other, not-true)
 find-item-under-requires-2 : tie.Need-find-item-under-requires-2
 find-item-under-requires-2 c κs = search (places.place-lies, steps.id-order, steps.id-inside)
 
-enum-known-chosen : tie.Need-enum-known-chosen
-enum-known-chosen c = search needs
+enum-known-found : tie.Need-enum-known-found
+enum-known-found c = search needs
 
 enum-told-2 : tie.Need-enum-told-2
 enum-told-2 c = search needs
@@ -76,7 +76,7 @@ select-from-spec =
     refused-requires-3
     returns-3
     find-item-under-requires-2
-    enum-known-chosen
+    enum-known-found
     enum-told-2
     refused-requires-4
     returns-4
