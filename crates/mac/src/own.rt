@@ -27,16 +27,9 @@ const CERTIFIED_TIMESTAMP: u32 = 0x04000310;
 fn is_named(tag: u32) -> bool
     ensures { λ r. ⌜ r ≡ named tag ⌝ }
 {
-    if tag == CERTIFICATE_OF_SIGNER {
-        return true;
-    }
-    if tag == SIGNATURE_VALUE {
-        return true;
-    }
-    if tag == CERTIFIED_TIMESTAMP_TYPE {
-        return true;
-    }
-    tag == CERTIFIED_TIMESTAMP
+    (tag == CERTIFICATE_OF_SIGNER)
+        | ((tag == SIGNATURE_VALUE)
+            | ((tag == CERTIFIED_TIMESTAMP_TYPE) | (tag == CERTIFIED_TIMESTAMP)))
 }
 
 // Whether an element is left out, by its tag, whether it is UN and whether it holds UN.

@@ -65,10 +65,7 @@ fn is_mac_id(vr: u16, start: usize, end: usize) -> bool
     requires { ⌜ start ≤ end ⌝ }
     ensures { λ r. ⌜ r ≡ (eqb vr US && eqb (end - start) 2) ⌝ }
 {
-    if vr != vr::US {
-        return false;
-    }
-    end - start == 2
+    (vr == vr::US) & (end - start == 2)
 }
 
 // Whether a MAC ID Number stands in this place, with the same bytes as from start to end.

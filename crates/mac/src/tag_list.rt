@@ -34,38 +34,18 @@ pub(crate) fn is_barred(tag: u32) -> bool
     ensures { λ r. ⌜ r ≡ barred tag ⌝ }
 {
     let group = tag / 65536;
-    if tag % 65536 == 0 {
-        return true;
-    }
-    if tag == 0x00080001 {
-        return true;
-    }
-    if group < 0x0008 {
-        return true;
-    }
-    if group == 0xFFFA {
-        return true;
-    }
-    if tag == 0x4FFE0001 {
-        return true;
-    }
-    if tag == 0xFFFCFFFC {
-        return true;
-    }
-    tag == 0xFFFEE00D
+    (tag % 65536 == 0)
+        | ((tag == 0x00080001)
+            | ((group < 0x0008)
+                | ((group == 0xFFFA)
+                    | ((tag == 0x4FFE0001) | ((tag == 0xFFFCFFFC) | (tag == 0xFFFEE00D))))))
 }
 
 // Whether a list of so many bytes is refused.
 fn bad_size(bytes: usize) -> bool
     ensures { λ r. ⌜ r ≡ badSize bytes ⌝ }
 {
-    if bytes == 0 {
-        return true;
-    }
-    if 4096 < bytes {
-        return true;
-    }
-    0 < bytes % 4
+    (bytes == 0) | ((4 * 1024 < bytes) | (0 < bytes % 4))
 }
 
 // The first tag that is not above the one before it.
