@@ -13,7 +13,8 @@ use Rattle.answer.specs.If.{if_then_else_}
 use Rattle.dataset.specs.Tree.{Element, Elements, none, and, tagOf, spanOf}
 use Rattle.dataset.specs.Order.{ElementsLie}
 use Rattle.dataset.specs.Reading.{Reading, fault, read, _>>=_, One, ended, element, explicit, byOne, elementsAt, oneAt, sizeLimit, levels, dataSet, oneOutcomeOf}
-use Rattle.dataset.specs.Lookup.{find, absent, present, foundOf, foundIn, found, orNext}
+use Rattle.dataset.specs.Lookup.{find, absent, present, foundOf, foundIn, found}
+use Rattle.dataset.specs.Inner.Outcomes.{orNext}
 use Rattle.dataset.specs.declared.lookup.Found.{Found}
 use Rattle.dataset.specs.declared.reading.OneOutcome.{OneOutcome}
 use Rattle.dataset.specs.declared.reading.OneOutcome.the-variants as one

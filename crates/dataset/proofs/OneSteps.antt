@@ -11,7 +11,8 @@ use Rattle.answer.specs.If.{if_then_else_}
 use Rattle.dataset.specs.Vr.{OB, SQ}
 use Rattle.dataset.specs.Header.{elementAt}
 use Rattle.dataset.specs.Tree.{Element}
-use Rattle.dataset.specs.Reading.{Reading, fault, read, _>>=_, One, explicit, refusal, byHeader, fragmentsAt, itemsAt, oneAt, outcomeOf, oneOutcomeOf, PastDelimiter, holdingOf}
+use Rattle.dataset.specs.Reading.{Reading, fault, read, _>>=_, One, explicit, refusal, byHeader, fragmentsAt, itemsAt, oneAt, oneOutcomeOf}
+use Rattle.dataset.specs.Inner.Outcomes.{outcomeOf, PastDelimiter, holdingOf}
 use Rattle.dataset.specs.declared.header.ElementHeader.{ElementHeader}
 use Rattle.dataset.specs.declared.header.ElementHeader.the-variants as header
 use Rattle.dataset.specs.declared.reading.Outcome.{Outcome}

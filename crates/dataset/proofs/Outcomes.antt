@@ -6,7 +6,8 @@ use mathlib.Core.List.{List}
 use native.Mathlib.Omega.{arith}
 use Rattle.answer.specs.declared.Answer.{Answer}
 use Rattle.dataset.specs.Tree.{Element, tagOf, vrOf, spanOf}
-use Rattle.dataset.specs.Reading.{Reading, fault, read, _>>=_, One, ended, element, explicit, fragmentsAt, elementsAt, itemsAt, outcomeOf, oneOutcomeOf}
+use Rattle.dataset.specs.Reading.{Reading, fault, read, _>>=_, One, ended, element, explicit, fragmentsAt, elementsAt, itemsAt, oneOutcomeOf}
+use Rattle.dataset.specs.Inner.Outcomes.{outcomeOf}
 use Rattle.dataset.specs.declared.reading.Outcome.{Outcome}
 use Rattle.dataset.specs.declared.reading.Outcome.the-variants as outcome
 use Rattle.dataset.specs.declared.reading.OneOutcome.the-variants as one

@@ -12,7 +12,8 @@ use Rattle.answer.specs.Answer as answer
 use Rattle.answer.specs.If.{if_then_else_}
 use Rattle.dataset.specs.Header.{itemAt}
 use Rattle.dataset.specs.Tree.{Element}
-use Rattle.dataset.specs.Reading.{Reading, fault, read, _>>=_, One, ended, element, explicit, refusal, byOne, byItem, byFragment, fragmentsAt, elementsAt, itemsAt, oneAt, sizeLimit, levels, dataSet, answerOf, outcomeOf, oneOutcomeOf}
+use Rattle.dataset.specs.Reading.{Reading, fault, read, _>>=_, One, ended, element, explicit, refusal, byOne, byItem, byFragment, fragmentsAt, elementsAt, itemsAt, oneAt, sizeLimit, levels, dataSet, answerOf, oneOutcomeOf}
+use Rattle.dataset.specs.Inner.Outcomes.{outcomeOf}
 use Rattle.dataset.specs.declared.header.ItemHeader.{ItemHeader}
 use Rattle.dataset.specs.declared.header.ItemHeader.the-variants as place
 use Rattle.dataset.specs.declared.reading.Outcome.{Outcome}

@@ -53,7 +53,3 @@ pub record Lookup (f : Found) (lent : ℕ × ℕ) (d : List ℕ) (place : ℕ ×
   pub numbered : number ≡ f .answer .number
   pub positioned : position ≡ f .answer .position
   pub stands : present ≡ f .present
-
--- ---- no part of what a reader must believe: what is found after one element more (`hit`: it has the tag), for an inner contract
-unfoldable pub orNext : Found → (hit : Bool) → Found → Found
-orNext f hit g = if f .present then f else if hit then g else f

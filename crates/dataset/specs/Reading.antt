@@ -15,8 +15,6 @@ use Rattle.dataset.specs.declared.header.ElementHeader.{ElementHeader}
 use Rattle.dataset.specs.declared.header.ElementHeader.the-variants as header
 use Rattle.dataset.specs.declared.header.ItemHeader.{ItemHeader}
 use Rattle.dataset.specs.declared.header.ItemHeader.the-variants as place
-use Rattle.dataset.specs.declared.reading.Outcome.{Outcome}
-use Rattle.dataset.specs.declared.reading.Outcome.the-variants as outcome
 use Rattle.dataset.specs.declared.reading.OneOutcome.{OneOutcome}
 use Rattle.dataset.specs.declared.reading.OneOutcome.the-variants as one
 
@@ -164,20 +162,3 @@ abbrev pub oneOutcomeOf : Reading One → OneOutcome
 oneOutcomeOf (fault f) = one.Refused f
 oneOutcomeOf (read ended next) = one.End next
 oneOutcomeOf (read (element e) next) = one.Element (tagOf e) (vrOf e) (spanOf e .start) (spanOf e .end) next
-
--- ---- no part of what a reader must believe, for inner contracts
-
--- the fault, or the offset past what was read
-abbrev pub outcomeOf : {A : Type 0} → Reading A → Outcome
-outcomeOf (fault f) = outcome.Refused f
-outcomeOf (read a next) = outcome.Next next
-
--- what was read has room for a closing delimiter, of 8 bytes
-abbrev pub PastDelimiter : Outcome → Type 0
-PastDelimiter (outcome.Refused f) = Unit {0}
-PastDelimiter (outcome.Next next) = 8 ≤ next
-
--- an element that holds items or fragments, by what their reader answers
-unfoldable pub holdingOf : (tag vr start : ℕ) (delimited : Bool) → Outcome → OneOutcome
-holdingOf tag vr start delimited (outcome.Refused f) = one.Refused f
-holdingOf tag vr start delimited (outcome.Next next) = one.Element tag vr start (if delimited then next - 8 else next) next
