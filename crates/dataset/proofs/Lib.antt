@@ -7,6 +7,7 @@ pub mod Outcomes
 pub mod OneSteps
 pub mod Steps
 pub mod Guarantees
+pub mod Lies
 pub mod Order
 pub mod LookupSteps
 pub mod Theorems

@@ -11,9 +11,9 @@ use Rattle.answer.specs.declared.Answer.{Answer}
 use Rattle.answer.specs.Answer as answer
 use Rattle.answer.specs.If.{if_then_else_}
 use Rattle.dataset.specs.Tree.{Element, Elements, none, and, tagOf, spanOf}
-use Rattle.dataset.specs.Order.{ElementsLie}
+use Rattle.dataset.proofs.Lies.{ElementsLie}
 use Rattle.dataset.specs.Reading.{Reading, fault, read, _>>=_, One, ended, element, explicit, byOne, elementsAt, oneAt, sizeLimit, levels, dataSet, oneOutcomeOf}
-use Rattle.dataset.specs.Lookup.{find, absent, present, foundOf, foundIn, found}
+use Rattle.dataset.specs.Lookup.{elementOf, absent, present, foundOf, foundIn, found}
 use Rattle.dataset.specs.Inner.Outcomes.{orNext}
 use Rattle.dataset.specs.declared.lookup.Found.{Found}
 use Rattle.dataset.specs.declared.reading.OneOutcome.{OneOutcome}
@@ -28,7 +28,7 @@ use Rattle.dataset.proofs.Order.{span-inside}
 -- ---- what was found before, or else what is found in what is left
 unfoldable pub withBefore : (size tag : ℕ) → Found → Reading Elements → Found
 withBefore size tag f (fault g) = absent g size
-withBefore size tag f (read es n) = orNext f true (foundOf size (find tag es))
+withBefore size tag f (read es n) = orNext f true (foundOf size (elementOf tag es))
 
 abbrev pub nothing : ℕ → Found
 nothing size = absent (answer.accepted 0) size
@@ -82,11 +82,11 @@ found-if size false e o = refl
 before-front : (size tag : ℕ) (f : Found) (e : Element) (p : Reading Elements) (k : Elements × ℕ → Reading Elements)
     → ((es : Elements) (n : ℕ) → k (es, n) ≡ read (and e es) n)
     → withBefore size tag f (p >>= k) ≡ withBefore size tag (orNext f (eqb (tagOf e) tag) (present (spanOf e .start) (spanOf e .end))) p
-unfolding withBefore find
+unfolding withBefore elementOf
 before-front size tag f e (fault r) k g = refl
 before-front size tag f e (read es n) k g =
-    rw (g es n, found-if size (eqb (tagOf e) tag) e (find tag es))
-    (front f (present (spanOf e .start) (spanOf e .end)) refl (eqb (tagOf e) tag) (foundOf size (find tag es)))
+    rw (g es n, found-if size (eqb (tagOf e) tag) e (elementOf tag es))
+    (front f (present (spanOf e .start) (spanOf e .end)) refl (eqb (tagOf e) tag) (foundOf size (elementOf tag es)))
 
 -- ---- a turn of the loop: r is what the reader of one element answers
 module _ (d : List ℕ) (tag at least : ℕ) (r : OneOutcome) (e : r ≡ oneOutcomeOf (oneAt explicit d false levels (length d) at least)) (f : Found) (i : FindLoop d tag at least f) where
@@ -104,7 +104,7 @@ module _ (d : List ℕ) (tag at least : ℕ) (r : OneOutcome) (e : r ≡ oneOutc
       w ∙ sym (so h (absent g (length d)) (rw (is (fault g) (is-one-fault (oneAt explicit d false levels (length d) at least) g (sym e ∙ q)))))
 
   pub find-end : (next : ℕ) → length d ≤ sizeLimit → r ≡ one.End next → f ≡ found d tag
-  unfolding byOne withBefore find foundOf
+  unfolding byOne withBefore elementOf foundOf
   find-end next h q =
       sym (so h f (rw (is (read ended next) (is-one-end (oneAt explicit d false levels (length d) at least) next (sym e ∙ q))) (i .kept)))
 
@@ -146,15 +146,15 @@ find-over d tag g x h e w = w ∙ rw (e, data-set-over d h)
 Inside : List ℕ → Found → Type 0
 Inside d f = f .start + f .length ≤ length d
 
-find-inside : (es : Elements) (tag : ℕ) (d : List ℕ) (left floor at next : ℕ) → ElementsLie es d left floor at next → Inside d (foundOf (length d) (find tag es))
-unfolding ElementsLie find Inside foundOf if_then_else_
-find-inside none tag d left floor at next r = omega arith
-find-inside (and e es) tag d left floor at next r =
+find-inside : (es : Elements) (tag : ℕ) (d : List ℕ) (left least at next : ℕ) → ElementsLie es d left least at next → Inside d (foundOf (length d) (elementOf tag es))
+unfolding ElementsLie elementOf Inside foundOf if_then_else_
+find-inside none tag d left least at next r = omega arith
+find-inside (and e es) tag d left least at next r =
     let s = span-inside e d left at (r .0) (r .2) in
     go (eqb (tagOf e) tag) (omega (arith, s .order, s .inside)) (find-inside es tag d left (tagOf e + 1) (r .0) next (r .3))
   where
-    go : (b : Bool) → Inside d (present (spanOf e .start) (spanOf e .end)) → Inside d (foundOf (length d) (find tag es))
-        → Inside d (foundOf (length d) (if b then some e else find tag es))
+    go : (b : Bool) → Inside d (present (spanOf e .start) (spanOf e .end)) → Inside d (foundOf (length d) (elementOf tag es))
+        → Inside d (foundOf (length d) (if b then some e else elementOf tag es))
     go true x y = x
     go false x y = y
 

@@ -12,7 +12,7 @@ use borrow.Author.Tests.{ltb-true, ltb-false}
 use Rattle.answer.specs.declared.Answer.{Answer}
 use Rattle.answer.specs.Answer as answer
 use Rattle.dataset.specs.Tree.{Element, Elements}
-use Rattle.dataset.specs.Lookup.{find, foundOf, foundIn, found}
+use Rattle.dataset.specs.Lookup.{elementOf, foundOf, foundIn, found}
 use Rattle.dataset.proofs.LookupSteps.{found-inside}
 use Rattle.dataset.specs.Reading.{Reading, fault, read, One, ended, element, explicit, elementsAt, oneAt, sizeLimit, levels, dataSet, answerOf, WellFormed}
 use Rattle.dataset.specs.Theorems.{EvenLength, FaultsOfOne, ValueInside, Theorems}
@@ -96,7 +96,7 @@ value-inside d tag = record { inside = found-inside d tag (found d tag) refl; st
 
     other : (p : Reading Elements) → foundIn (length d) tag p .present ≡ false → (foundIn (length d) tag p .start ≡ length d) × (foundIn (length d) tag p .length ≡ 0)
     other (fault f) e = (refl, refl)
-    other (read es n) e = missing (find tag es) e
+    other (read es n) e = missing (elementOf tag es) e
 
 pub theorems : Theorems
 theorems = record {

@@ -13,7 +13,7 @@ use Rattle.dataset.specs.declared.header.ElementHeader.the-variants as h
 use Rattle.dataset.specs.declared.header.ItemHeader.{ItemHeader}
 use Rattle.dataset.specs.declared.header.ItemHeader.the-variants as place
 use Rattle.dataset.proofs.Bounds.{Number}
-use Rattle.dataset.proofs.Bounded.{ElementIn, ItemIn, Bounded}
+use Rattle.dataset.proofs.Bounded.{ElementHeaderIn, ItemHeaderIn, Bounded}
 
 -- ---- where faults lie, and what follows what was read
 
@@ -63,14 +63,14 @@ module _ (stop at : ℕ) (refuse : ℕ → Answer) where
   abbrev Inner : {A : Type 0} → (Bool → ℕ → ℕ → Reading A) → Type 0
   Inner inner = (delimited : Bool) (end i : ℕ) → at < i → i ≤ end → end ≤ stop → Within i end (inner delimited end i)
 
-  fragment-within : (parts : ℕ → Reading (List Span)) (p : ItemHeader) → Refuses → ItemIn stop at p → Parts parts → Within at stop (byFragment refuse parts p)
+  fragment-within : (parts : ℕ → Reading (List Span)) (p : ItemHeader) → Refuses → ItemHeaderIn stop at p → Parts parts → Within at stop (byFragment refuse parts p)
   unfolding byFragment
   fragment-within parts (place.Refused number) z h f = z number h
   fragment-within parts (place.End next) z h f = h
   fragment-within parts (place.Item start end delimited) z h f =
       then-within end stop at stop (parts end) _ (omega arith) (omega arith) (f end (omega arith) (h .2)) λ a n l u. omega arith
 
-  header-within : (items : Bool → ℕ → ℕ → Reading Items) (parts : ℕ → Reading (List Span)) (p : ElementHeader) → Refuses → ElementIn stop at p
+  header-within : (items : Bool → ℕ → ℕ → Reading Items) (parts : ℕ → Reading (List Span)) (p : ElementHeader) → Refuses → ElementHeaderIn stop at p
       → Inner items → Parts parts → OneIn at stop (byHeader refuse items parts at p)
   unfolding byHeader
   header-within items parts (header.Refused number) z h f g = z number h
@@ -89,7 +89,7 @@ module _ (stop at : ℕ) (refuse : ℕ → Answer) where
   one-within elements (read (element e) n) h g =
       then-within n stop at stop (elements n (tagOf e + 1)) _ (omega arith) (omega arith) (g n (tagOf e + 1) (h .0) (h .1)) λ a m l u. omega arith
 
-  item-within : (elements : Bool → ℕ → ℕ → Reading Elements) (items : ℕ → Reading Items) (p : ItemHeader) → Refuses → ItemIn stop at p
+  item-within : (elements : Bool → ℕ → ℕ → Reading Elements) (items : ℕ → Reading Items) (p : ItemHeader) → Refuses → ItemHeaderIn stop at p
       → Inner elements → ((i : ℕ) → at < i → i ≤ stop → Within i stop (items i)) → Within at stop (byItem refuse elements items at p)
   unfolding byItem
   item-within elements items (place.Refused number) z h f g = z number h
@@ -99,14 +99,14 @@ module _ (stop at : ℕ) (refuse : ℕ → Answer) where
       then-within n stop at stop (items n) _ (omega arith) (omega arith) (g n (omega arith) (omega arith)) λ b m l′ u′. omega arith
 
   -- readers that agree from here on read the same
-  fragment-same : (parts parts′ : ℕ → Reading (List Span)) (p : ItemHeader) → ItemIn stop at p
+  fragment-same : (parts parts′ : ℕ → Reading (List Span)) (p : ItemHeader) → ItemHeaderIn stop at p
       → ((i : ℕ) → at < i → i ≤ stop → parts i ≡ parts′ i) → byFragment refuse parts p ≡ byFragment refuse parts′ p
   unfolding byFragment
   fragment-same parts parts′ (place.Refused number) h f = refl
   fragment-same parts parts′ (place.End next) h f = refl
   fragment-same parts parts′ (place.Item start end delimited) h f = rw (f end (omega arith) (h .2))
 
-  header-same : (items items′ : Bool → ℕ → ℕ → Reading Items) (parts parts′ : ℕ → Reading (List Span)) (p : ElementHeader) → ElementIn stop at p
+  header-same : (items items′ : Bool → ℕ → ℕ → Reading Items) (parts parts′ : ℕ → Reading (List Span)) (p : ElementHeader) → ElementHeaderIn stop at p
       → ((delimited : Bool) (end i : ℕ) → at < i → i ≤ end → end ≤ stop → items delimited end i ≡ items′ delimited end i)
       → ((i : ℕ) → at < i → i ≤ stop → parts i ≡ parts′ i)
       → byHeader refuse items parts at p ≡ byHeader refuse items′ parts′ at p
@@ -124,7 +124,7 @@ module _ (stop at : ℕ) (refuse : ℕ → Answer) where
   one-same elements elements′ (read ended n) h g = refl
   one-same elements elements′ (read (element e) n) h g = rw (g n (tagOf e + 1) (h .0) (h .1))
 
-  item-same : (elements elements′ : Bool → ℕ → ℕ → Reading Elements) (items items′ : ℕ → Reading Items) (p : ItemHeader) → ItemIn stop at p
+  item-same : (elements elements′ : Bool → ℕ → ℕ → Reading Elements) (items items′ : ℕ → Reading Items) (p : ItemHeader) → ItemHeaderIn stop at p
       → ((delimited : Bool) (end i : ℕ) → at < i → i ≤ end → end ≤ stop
       → (elements delimited end i ≡ elements′ delimited end i) × Within i end (elements′ delimited end i))
       → ((i : ℕ) → at < i → i ≤ stop → items i ≡ items′ i)

@@ -18,9 +18,9 @@ use Rattle.dataset.specs.declared.lookup.Found.{Found}
 -- Found (src/lookup.rt): answer present start length
 
 -- the element of a "top-level tag": items are not searched
-unfoldable pub find : ℕ → Elements → Option Element
-find tag none = Opt.none
-find tag (and e rest) = if eqb (tagOf e) tag then some e else find tag rest
+unfoldable pub elementOf : (tag : ℕ) → Elements → Option Element
+elementOf tag none = Opt.none
+elementOf tag (and e rest) = if eqb (tagOf e) tag then some e else elementOf tag rest
 
 -- "Where the set is refused or the tag absent it is the empty part at the end", and a no
 abbrev pub absent : Answer → (size : ℕ) → Found
@@ -38,7 +38,7 @@ foundOf size (some e) = present (spanOf e .start) (spanOf e .end)
 -- "Beside it stand the reading's number and position (0, or 1 to 8) and a yes or no: whether the tag stands there."
 unfoldable pub foundIn : (size tag : ℕ) → Reading Elements → Found
 foundIn size tag (fault f) = absent f size
-foundIn size tag (read es next) = foundOf size (find tag es)
+foundIn size tag (read es next) = foundOf size (elementOf tag es)
 
 -- the lookup of a tag in a data set: one reading of the whole
 unfoldable pub found : List ℕ → (tag : ℕ) → Found
