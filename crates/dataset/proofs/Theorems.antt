@@ -58,37 +58,34 @@ faults-of-one d delimited left stop at least f h l e =
     let w = one-fault at stop (oneAt explicit d delimited left stop at least) f (one-in explicit explicit-bounded d delimited left stop at least h) e in
     record { fromLowest = w .number .0; upTo8 = w .number .1; after = w .order; inside = w .inside; noLength = w .nothing }
 
--- a well-formed data set is read
-pub record IsTree (d : List ℕ) : Type 0 where
-  pub elements : Elements
-  pub next : ℕ
-  pub is : dataSet d ≡ read elements next
+-- well-formed is what is answered with number 0
+pub well-formed-accepted : (d : List ℕ) → WellFormed d → answerOf (dataSet d) ≡ answer.accepted 0
+well-formed-accepted d w = ap answerOf (w .2)
 
-pub well-formed-read : (d : List ℕ) → WellFormed d → IsTree d
-well-formed-read d w = go (dataSet d) refl
+pub accepted-well-formed : (d : List ℕ) → answerOf (dataSet d) ≡ answer.accepted 0 → WellFormed d
+accepted-well-formed d w = go (dataSet d) refl
   where
-    go : (p : Reading Elements) → dataSet d ≡ p → IsTree d
+    go : (p : Reading Elements) → dataSet d ≡ p → WellFormed d
     go (fault f) e =
         let r = faults-inside d f e in
         let z : f ≡ answer.accepted 0 = sym (ap answerOf e) ∙ w in
         let n : f .number ≡ 0 = ap (λ (a : Answer). a .number) z in
         absurd (omega (arith, r .least, n))
-    go (read es n) e = record { elements = es; next = n; is = e }
+    go (read es n) e = (es, n, e)
 
 even-length : EvenLength
 even-length d w =
-    let t = well-formed-read d w in
-    let r = data-set-read d (t .elements) (t .next) (t .is) in
-    let k = elements-end (t .elements) d levels 0 0 (t .next) (r .tree) in
+    let r = data-set-read d (w .0) (w .1) (w .2) in
+    let k = elements-end (w .0) d levels 0 0 (w .1) (r .tree) in
     omega (arith, k .even, r .whole)
 
 value-inside : ValueInside
 unfolding found foundIn foundOf
-value-inside d tag = record { inside = found-inside d tag (found d tag) refl; stands = go (dataSet d); otherwise = other (dataSet d) }
+value-inside d tag = record { inside = found-inside d tag (found d tag) refl; stands = go (dataSet d) refl; otherwise = other (dataSet d) }
   where
-    go : (p : Reading Elements) → foundIn (length d) tag p .present ≡ true → answerOf p ≡ answer.accepted 0
-    go (fault f) e = absurd (false≢true e)
-    go (read es n) e = refl
+    go : (p : Reading Elements) → dataSet d ≡ p → foundIn (length d) tag p .present ≡ true → WellFormed d
+    go (fault f) q e = absurd (false≢true e)
+    go (read es n) q e = (es, n, q)
 
     missing : (o : Option Element) → foundOf (length d) o .present ≡ false → (foundOf (length d) o .start ≡ length d) × (foundOf (length d) o .length ≡ 0)
     missing Opt.none e = (refl, refl)
