@@ -2,6 +2,7 @@ pub mod Checks
 pub mod Bools
 pub mod Bounds
 pub mod Bounded
+pub mod Within
 pub mod Unfolding
 pub mod Outcomes
 pub mod OneSteps

@@ -17,7 +17,8 @@ use Rattle.dataset.proofs.LookupSteps.{found-inside}
 use Rattle.dataset.specs.Reading.{Reading, fault, read, One, ended, element, explicit, elementsAt, oneAt, sizeLimit, levels, dataSet, answerOf, WellFormed}
 use Rattle.dataset.specs.Theorems.{EvenLength, FaultsOfOne, ValueInside, Theorems}
 use Rattle.dataset.proofs.Bounded.{explicit-bounded}
-use Rattle.dataset.proofs.Unfolding.{Within, FaultIn, elements-within, elements-enough, items-enough, fragments-enough, OneIn, one-in, elements-are, items-are, fragments-are}
+use Rattle.dataset.proofs.Within.{Within, FaultIn, elements-within, OneIn, one-in}
+use Rattle.dataset.proofs.Unfolding.{elements-enough, items-enough, fragments-enough, elements-are, items-are, fragments-are}
 use Rattle.dataset.proofs.Steps.{data-set-is, data-set-over}
 use Rattle.dataset.proofs.Guarantees.{data-set-read}
 use Rattle.dataset.proofs.Order.{elements-end}
