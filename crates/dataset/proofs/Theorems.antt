@@ -14,10 +14,10 @@ use Rattle.answer.specs.Answer as answer
 use Rattle.dataset.specs.Tree.{Element, Elements}
 use Rattle.dataset.specs.Lookup.{elementOf, foundOf, foundIn, found}
 use Rattle.dataset.proofs.LookupSteps.{found-inside}
-use Rattle.dataset.specs.Reading.{Reading, fault, read, One, ended, element, explicit, elementsAt, oneAt, sizeLimit, levels, dataSet, answerOf, WellFormed}
-use Rattle.dataset.specs.Theorems.{EvenLength, FaultsOfOne, ValueInside, Theorems}
+use Rattle.dataset.specs.Reading.{Reading, fault, read, One, ended, element, explicit, elementsAt, itemsAt, fragmentsAt, oneAt, sizeLimit, levels, dataSet, answerOf, WellFormed}
+use Rattle.dataset.specs.Theorems.{EvenLength, Refusal, FaultsInExtents, ValueInside, Theorems}
 use Rattle.dataset.proofs.Bounded.{explicit-bounded}
-use Rattle.dataset.proofs.Within.{Within, FaultIn, elements-within, OneIn, one-in}
+use Rattle.dataset.proofs.Within.{Within, FaultIn, OneIn, fragments-within, elements-within, items-within, one-in}
 use Rattle.dataset.proofs.Unfolding.{elements-enough, items-enough, fragments-enough, elements-are, items-are, fragments-are}
 use Rattle.dataset.proofs.Steps.{data-set-is, data-set-over}
 use Rattle.dataset.proofs.Guarantees.{data-set-read}
@@ -54,10 +54,21 @@ one-fault lo hi (fault g) f w e = let q : g ≡ f = cc in rw (← q) w
 one-fault lo hi (read ended n) f w e = absurd (true≢false (cc))
 one-fault lo hi (read (element x) n) f w e = absurd (true≢false (cc))
 
-faults-of-one : FaultsOfOne
-faults-of-one d delimited left stop at least f h l e =
-    let w = one-fault at stop (oneAt explicit d delimited left stop at least) f (one-in explicit explicit-bounded d delimited left stop at least h) e in
-    record { fromLowest = w .number .0; upTo8 = w .number .1; after = w .order; inside = w .inside; noLength = w .nothing }
+refusal-in : (lo hi : ℕ) (f : Answer) → FaultIn lo hi f → Refusal 2 lo hi f
+refusal-in lo hi f w = record { fromLowest = w .number .0; upTo8 = w .number .1; after = w .order; inside = w .inside; noLength = w .nothing }
+
+faults-in-extents : FaultsInExtents
+unfolding elementsAt itemsAt fragmentsAt
+faults-in-extents d delimited left stop at h l = record {
+  one = λ least f e. refusal-in at stop f
+      (one-fault at stop (oneAt explicit d delimited left stop at least) f (one-in explicit explicit-bounded d delimited left stop at least h) e);
+  elements = λ least f e. refusal-in at stop f
+      (within-fault at stop (elementsAt explicit d delimited left stop at least) f (elements-within explicit explicit-bounded (suc (stop - at)) d delimited left stop at least h (omega arith)) e);
+  items = λ f e. refusal-in at stop f
+      (within-fault at stop (itemsAt explicit d delimited left stop at) f (items-within explicit explicit-bounded (suc (stop - at)) d delimited left stop at h (omega arith)) e);
+  fragments = λ f e. refusal-in at stop f
+      (within-fault at stop (fragmentsAt explicit d left stop at) f (fragments-within explicit explicit-bounded (suc (stop - at)) d left stop at h (omega arith)) e);
+}
 
 -- well-formed is what is answered with number 0
 pub well-formed-accepted : (d : List ℕ) → WellFormed d → answerOf (dataSet d) ≡ answer.accepted 0
@@ -82,8 +93,16 @@ even-length d w =
 
 value-inside : ValueInside
 unfolding found foundIn foundOf
-value-inside d tag = record { inside = found-inside d tag (found d tag) refl; stands = go (dataSet d) refl; otherwise = other (dataSet d) }
+value-inside d tag = record { inside = found-inside d tag (found d tag) refl; answered = says (dataSet d); stands = go (dataSet d) refl; otherwise = other (dataSet d) }
   where
+    accepts : (o : Option Element) → foundOf (length d) o .answer ≡ answer.accepted 0
+    accepts Opt.none = refl
+    accepts (some x) = refl
+
+    says : (p : Reading Elements) → foundIn (length d) tag p .answer ≡ answerOf p
+    says (fault f) = refl
+    says (read es n) = accepts (elementOf tag es)
+
     go : (p : Reading Elements) → dataSet d ≡ p → foundIn (length d) tag p .present ≡ true → WellFormed d
     go (fault f) q e = absurd (false≢true e)
     go (read es n) q e = (es, n, q)
@@ -100,7 +119,7 @@ pub theorems : Theorems
 theorems = record {
   even-length = even-length;
   faults-inside = λ d f e. let r = faults-inside d f e in record { fromLowest = r .least; upTo8 = r .most; after = omega arith; inside = r .inside; noLength = r .nothing };
-  faults-of-one = faults-of-one;
+  faults-in-extents = faults-in-extents;
   in-order = λ d es next e. data-set-read d es next e .fills;
   fuel-suffices = λ n d delimited left stop at h l. record {
     elements = λ least. elements-enough explicit explicit-bounded n d delimited left stop at least h l;

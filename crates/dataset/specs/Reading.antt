@@ -91,7 +91,7 @@ byFragment refuse parts (itemHeader.Item start stop delimited) = do
 
 module _ (h : Headers) where
   -- The recursion counts down a number (fuel), one for each header on the way. Where it is used up the fault's number is 0, which
-  -- `elementsAt` and the others below never give (`FuelSuffices`, `FaultsInside` and `FaultsOfOne` of Theorems.antt).
+  -- `elementsAt` and the others below never give in an extent inside the data (`FuelSuffices` and `FaultsIn` of Theorems.antt).
   -- `left` is 16 less the level: of the data set that is read, or at which the sequence or the OB stands. Fragments have no levels below
   -- them: there it only says at which level the OB stands, and nothing is read by it.
   unfoldable pub fragmentsBy : ℕ → List ℕ → (left stop at : ℕ) → Reading (List Span)
