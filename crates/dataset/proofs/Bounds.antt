@@ -71,11 +71,11 @@ sized-start Neither d at start n s = absurd s
 pub value-start : (d : List ℕ) (stop at tag vr start end : ℕ) → ValueAt d stop at tag vr start end → at + 8 ≤ start
 value-start d stop at tag vr start end v = sized-start (formOf vr) d at start (end - start) (v .form)
 
-sq-long : formOf SQ ≡ Long
+pub sq-long : formOf SQ ≡ Long
 unfolding formOf oneOf if_then_else_
 sq-long = refl
 
-ob-long : formOf OB ≡ Long
+pub ob-long : formOf OB ≡ Long
 unfolding formOf oneOf if_then_else_
 ob-long = refl
 

@@ -10,5 +10,7 @@ pub mod Steps
 pub mod Guarantees
 pub mod Lies
 pub mod Order
+pub mod FilledHeaders
+pub mod Filled
 pub mod LookupSteps
 pub mod Theorems

@@ -29,13 +29,13 @@ pub record ElementsIn (d : List ℕ) (delimited : Bool) (left stop least at : �
   pub inside : n ≤ stop
   pub filled : delimited ≡ false → n ≡ stop
 
-record ItemsIn (d : List ℕ) (delimited : Bool) (left stop at : ℕ) (is : Items) (n : ℕ) : Type 0 where
+pub record ItemsIn (d : List ℕ) (delimited : Bool) (left stop at : ℕ) (is : Items) (n : ℕ) : Type 0 where
   pub tree : ItemsLie is d left at n
   pub order : at ≤ n
   pub inside : n ≤ stop
   pub closed : delimited ≡ true → at + 8 ≤ n
 
-record PartsIn (d : List ℕ) (stop at : ℕ) (ss : List Span) (n : ℕ) : Type 0 where
+pub record PartsIn (d : List ℕ) (stop at : ℕ) (ss : List Span) (n : ℕ) : Type 0 where
   pub tree : FragmentsLie ss d at n
   pub inside : n ≤ stop
   pub closed : at + 8 ≤ n
@@ -66,7 +66,7 @@ end-in d delimiter false stop at n l h =
       closed = λ x. absurd (false≢true x);
     }
 
-extent-inside : (n stop start end : ℕ) (delimited : Bool) → HeaderExtent n stop start end delimited → end ≤ stop
+pub extent-inside : (n stop start end : ℕ) (delimited : Bool) → HeaderExtent n stop start end delimited → end ≤ stop
 extent-inside n stop start end true h = let e = h .1 in omega arith
 extent-inside n stop start end false h = h .2
 
@@ -90,7 +90,7 @@ unfolding if_then_else_
 span-closes true s n e h f = let k = f refl in record { order = omega arith; inside = omega arith }
 span-closes false s n e h f = record { order = omega arith; inside = omega arith }
 
-parts-in : (ss : List Span) (d : List ℕ) (stop at n : ℕ) → stop ≤ length d → FragmentsFill ss d stop at n → PartsIn d stop at ss n
+pub parts-in : (ss : List Span) (d : List ℕ) (stop at n : ℕ) → stop ≤ length d → FragmentsFill ss d stop at n → PartsIn d stop at ss n
 unfolding FragmentsFill FragmentsLie
 parts-in [] d stop at n l r =
     let k = end-in d _ true stop at n l r in record { tree = k .tree; inside = k .inside; closed = k .closed refl }
@@ -146,7 +146,7 @@ mutual
       let j = elements-in es d delimited left stop (tagOf e + 1) (r .0) n l (r .3) in
       record { tree = (r .0, r .1, h .tree, j .tree); order = omega (arith, h .past, j .order); inside = j .inside; filled = j .filled }
 
-  items-in : (is : Items) (d : List ℕ) (delimited : Bool) (left stop at n : ℕ) → stop ≤ length d → ItemsFill is d delimited left stop at n
+  pub items-in : (is : Items) (d : List ℕ) (delimited : Bool) (left stop at n : ℕ) → stop ≤ length d → ItemsFill is d delimited left stop at n
       → ItemsIn d delimited left stop at is n
   items-in last d delimited left stop at n l r =
       let k = end-in d _ delimited stop at n l r in record { tree = k .tree; order = k .tree .order; inside = k .inside; closed = k .closed }

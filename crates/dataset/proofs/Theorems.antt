@@ -21,6 +21,7 @@ use Rattle.dataset.proofs.Within.{Within, FaultIn, OneIn, fragments-wit
 use Rattle.dataset.proofs.Unfolding.{elements-enough, items-enough, fragments-enough, elements-are, items-are, fragments-are}
 use Rattle.dataset.proofs.Steps.{data-set-is, data-set-over}
 use Rattle.dataset.proofs.Guarantees.{data-set-read}
+use Rattle.dataset.proofs.Filled.{filled-is-read}
 use Rattle.dataset.proofs.Order.{elements-end}
 
 within-fault : {A : Type 0} (lo hi : ℕ) (p : Reading A) (f : Answer) → Within lo hi p → p ≡ fault f → FaultIn lo hi f
@@ -121,6 +122,7 @@ theorems = record {
   faults-inside = λ d f e. let r = faults-inside d f e in record { fromLowest = r .least; upTo8 = r .most; after = omega arith; inside = r .inside; noLength = r .nothing };
   faults-in-extents = faults-in-extents;
   in-order = λ d es next e. data-set-read d es next e .fills;
+  filled-is-read = filled-is-read;
   fuel-suffices = λ n d delimited left stop at h l. record {
     elements = λ least. elements-enough explicit explicit-bounded n d delimited left stop at least h l;
     items = items-enough explicit explicit-bounded n d delimited left stop at h l;

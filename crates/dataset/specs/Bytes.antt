@@ -1,9 +1,13 @@
 -- Numbers, tags and VRs as a data set codes them. Assumes nothing.
-use Prim.Native.Nat.{ℕ, _+_, _-_, _*_}
+use Prim.Native.Nat.{ℕ, _+_, _-_, _*_, _<_}
 use mathlib.Core.List.{List}
 use lib.ListN.{length, getD, take, drop}
 use lib.Dec.{leb}
 use Rattle.answer.specs.If.{if_then_else_}
+
+-- a list of bytes
+abbrev pub OfBytes : List ℕ → Type 0
+OfBytes d = (i : ℕ) → getD d i 0 < 256
 
 -- the two-byte number at i, of group and element numbers, and lengths: "two bytes each, low byte first" (PS3.5, 7.3)
 unfoldable pub num16 : List ℕ → ℕ → ℕ

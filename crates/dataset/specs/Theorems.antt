@@ -6,9 +6,10 @@ use mathlib.Core.Bool.{Bool, true, false}
 use mathlib.Core.List.{List}
 use lib.ListN.{length}
 use Rattle.answer.specs.declared.Answer.{Answer}
+use Rattle.dataset.specs.Bytes.{OfBytes}
 use Rattle.dataset.specs.Header.{itemAt}
 use Rattle.dataset.specs.Tree.{Elements}
-use Rattle.dataset.specs.Reading.{fault, read, _>>=_, explicit, byOne, byItem, byFragment, fragmentsBy, elementsBy, itemsBy, elementsAt, itemsAt, fragmentsAt, oneAt, refusal, levels, dataSet, answerOf, WellFormed}
+use Rattle.dataset.specs.Reading.{fault, read, _>>=_, explicit, byOne, byItem, byFragment, fragmentsBy, elementsBy, itemsBy, elementsAt, itemsAt, fragmentsAt, oneAt, refusal, sizeLimit, levels, dataSet, answerOf, WellFormed}
 use Rattle.dataset.specs.Lookup.{found}
 use Rattle.dataset.specs.declared.lookup.Found.{Found}
 use Rattle.dataset.specs.Order.{ElementsFill}
@@ -44,6 +45,13 @@ FaultsInExtents = (d : List ℕ) (delimited : Bool) (left stop at : ℕ) → at 
 -- with ascending tags, and sequences at levels 0 to 15.
 abbrev pub InOrder : Type 0
 InOrder = (d : List ℕ) (es : Elements) (next : ℕ) → dataSet d ≡ read es next → ElementsFill es d false levels (length d) 0 0 next
+
+-- And what fills a data set within the size is what is read: a data set is accepted exactly when a tree fills it, and only one does. (In a list
+-- with numbers that are no bytes, an item delimiter could stand without group FFFE.)
+abbrev pub FilledIsRead : Type 0
+FilledIsRead =
+    (d : List ℕ) (es : Elements) (next : ℕ) → OfBytes d → length d ≤ sizeLimit → ElementsFill es d false levels (length d) 0 0 next
+    → dataSet d ≡ read es next
 
 -- The fuel that the definitions start with is enough: any number above the bytes that are left gives the same reading.
 pub record Enough (n : ℕ) (d : List ℕ) (delimited : Bool) (left stop at : ℕ) : Type 0 where
@@ -86,6 +94,7 @@ pub record Theorems : Type 0 where
   pub faults-inside : FaultsInside
   pub faults-in-extents : FaultsInExtents
   pub in-order : InOrder
+  pub filled-is-read : FilledIsRead
   pub fuel-suffices : FuelSuffices
   pub unfolds : Unfolds
   pub value-inside : ValueInside
