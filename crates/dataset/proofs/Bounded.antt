@@ -4,13 +4,12 @@ use mathlib.Core.Bool.{Bool}
 use mathlib.Core.List.{List}
 use native.Mathlib.Omega.{arith}
 use Rattle.dataset.specs.Header.{elementAt, itemAt}
-use Rattle.dataset.specs.Order.{ValueAt, NestAt}
 use Rattle.dataset.specs.Reading.{Headers, explicit}
 use Rattle.dataset.specs.declared.header.ElementHeader.{ElementHeader}
 use Rattle.dataset.specs.declared.header.ElementHeader.the-variants as element
 use Rattle.dataset.specs.declared.header.ItemHeader.{ItemHeader}
 use Rattle.dataset.specs.declared.header.ItemHeader.the-variants as item
-use Rattle.dataset.proofs.Bounds.{Number, EndAt, ItemSpan, ElementFacts, ItemFacts, value-start, element-facts, item-facts}
+use Rattle.dataset.proofs.Bounds.{Number, ElementFacts, ItemFacts, value-start, element-facts, item-facts}
 
 abbrev pub ElementHeaderIn : (stop at : ℕ) → ElementHeader → Type 0
 ElementHeaderIn stop at (element.Refused number) = Number number

@@ -1,22 +1,16 @@
 -- What fills an extent is what is read there (specs/Order.antt): by induction on the tree, with the equations that name no fuel.
 -- Assumes nothing.
-use Prim.Native.Nat.{ℕ, _+_, _-_, _≤_, _<_}
-use mathlib.Core.Path.{_≡_, refl, sym, ap, _∙_}
-use mathlib.Core.Bool.{Bool, true, false, false≢true}
+use Prim.Native.Nat.{ℕ, _+_, _-_, _≤_}
+use mathlib.Core.Path.{_≡_, refl, _∙_}
+use mathlib.Core.Bool.{Bool, true, false}
 use mathlib.Core.List.{List, [], _∷_}
 use native.Mathlib.Omega.{arith}
 use lib.ListN.{length}
-use Rattle.answer.specs.If.{if_then_else_}
 use Rattle.dataset.specs.Bytes.{OfBytes}
-use Rattle.dataset.specs.Header.{elementAt, itemAt}
 use Rattle.dataset.specs.Tree.{Span, Element, value, sequence, fragments, Elements, none, and, Items, last, item, tagOf}
-use Rattle.dataset.specs.Reading.{Reading, read, _>>=_, One, ended, element, explicit, refusal, byHeader, byOne, byItem, byFragment, fragmentsAt, elementsAt, itemsAt, oneAt}
+use Rattle.dataset.specs.Reading.{read, element, explicit, byHeader, byOne, byItem, byFragment, fragmentsAt, elementsAt, itemsAt, oneAt}
 use Rattle.dataset.specs.Order.{FragmentsFill, ElementFills, ElementsFill, ItemsFill}
 use Rattle.dataset.specs.Theorems.{FilledIsRead}
-use Rattle.dataset.specs.declared.header.ElementHeader.{ElementHeader}
-use Rattle.dataset.specs.declared.header.ElementHeader.the-variants as header
-use Rattle.dataset.specs.declared.header.ItemHeader.{ItemHeader}
-use Rattle.dataset.specs.declared.header.ItemHeader.the-variants as place
 use Rattle.dataset.proofs.Bounded.{explicit-bounded}
 use Rattle.dataset.proofs.Unfolding.{elements-are, items-are, fragments-are}
 use Rattle.dataset.proofs.Steps.{data-set-is}

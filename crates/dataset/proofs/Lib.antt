@@ -12,5 +12,6 @@ pub mod Lies
 pub mod Order
 pub mod FilledHeaders
 pub mod Filled
+pub mod FirstFault
 pub mod LookupSteps
 pub mod Theorems

@@ -22,6 +22,7 @@ use Rattle.dataset.proofs.Unfolding.{elements-enough, items-enough, fra
 use Rattle.dataset.proofs.Steps.{data-set-is, data-set-over}
 use Rattle.dataset.proofs.Guarantees.{data-set-read}
 use Rattle.dataset.proofs.Filled.{filled-is-read}
+use Rattle.dataset.proofs.FirstFault.{first-fault}
 use Rattle.dataset.proofs.Order.{elements-end}
 
 within-fault : {A : Type 0} (lo hi : ℕ) (p : Reading A) (f : Answer) → Within lo hi p → p ≡ fault f → FaultIn lo hi f
@@ -123,6 +124,7 @@ theorems = record {
   faults-in-extents = faults-in-extents;
   in-order = λ d es next e. data-set-read d es next e .fills;
   filled-is-read = filled-is-read;
+  first-fault = first-fault;
   fuel-suffices = λ n d delimited left stop at h l. record {
     elements = λ least. elements-enough explicit explicit-bounded n d delimited left stop at least h l;
     items = items-enough explicit explicit-bounded n d delimited left stop at h l;

@@ -13,7 +13,7 @@ use Rattle.dataset.specs.declared.header.ElementHeader.the-variants as h
 use Rattle.dataset.specs.declared.header.ItemHeader.{ItemHeader}
 use Rattle.dataset.specs.declared.header.ItemHeader.the-variants as place
 use Rattle.dataset.proofs.Bounded.{ElementHeaderIn, ItemHeaderIn, Bounded}
-use Rattle.dataset.proofs.Within.{Within, OneIn, header-within, refuses, itemsOf, oneBy, fragments-within, elements-within, items-within, one-in}
+use Rattle.dataset.proofs.Within.{Within, OneIn, itemsOf, oneBy, elements-within, one-by-in, one-in}
 
 then-same : {A B : Type 0} (lo hi : ℕ) (p : Reading A) (k k′ : A × ℕ → Reading B) → Within lo hi p
     → ((a : A) (n : ℕ) → lo ≤ n → n ≤ hi → k (a, n) ≡ k′ (a, n)) → (p >>= k) ≡ (p >>= k′)
@@ -84,9 +84,7 @@ module _ (h : Headers) (b : Bounded h) where
         (λ inner end i p q r. items-same m n d inner left end i q (omega arith) (omega arith))
         (λ i p q. fragments-same m n d left stop i q (omega arith) (omega arith)))
         ∙ one-same stop at (refusal at) (elementsBy h m d delimited left stop) (elementsBy h n d delimited left stop) (oneBy h b n d delimited left stop at least)
-        (header-within stop at (refusal at) (itemsOf h b n d left) (fragmentsBy h n d left stop) (h .element d delimited left stop at least) (refuses stop at z) (b .element-in d delimited left stop at least)
-        (λ inner end i p q r. items-within h b n d inner left end i q (omega arith))
-        (λ i p q. fragments-within h b n d left stop i q (omega arith)))
+        (one-by-in h b n d delimited left stop at least z (omega arith))
         (λ i above p q. elements-same m n d delimited left stop i above q (omega arith) (omega arith))
 
     items-same : (m n : ℕ) (d : List ℕ) (delimited : Bool) (left stop at : ℕ) → at ≤ stop → stop - at < m → stop - at < n

@@ -135,6 +135,12 @@ module _ (h : Headers) (b : Bounded h) where
         (λ i p q. items-within n d delimited left stop i q (omega arith))
 
   -- what is read in an element's place lies in the extent
+  pub one-by-in : (n : ℕ) (d : List ℕ) (delimited : Bool) (left stop at least : ℕ) → at ≤ stop → stop - at ≤ n → OneIn at stop (oneBy n d delimited left stop at least)
+  one-by-in n d delimited left stop at least z l =
+      header-within stop at (refusal at) (itemsOf n d left) (fragmentsBy h n d left stop) (h .element d delimited left stop at least) (refuses stop at z) (b .element-in d delimited left stop at least)
+      (λ inner end i p q r. items-within n d inner left end i q (omega arith))
+      (λ i p q. fragments-within n d left stop i q (omega arith))
+
   pub one-in : (d : List ℕ) (delimited : Bool) (left stop at least : ℕ) → at ≤ stop → OneIn at stop (oneAt h d delimited left stop at least)
   unfolding oneAt itemsAt fragmentsAt
   one-in d delimited left stop at least z =

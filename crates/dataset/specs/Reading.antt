@@ -1,6 +1,6 @@
 -- The reading of a data set: "The first fault from the left is given, at the offset where that element's, item's or delimiter's header
 -- starts" (01, "Reading the data set"), or the tree of its elements. Assumes nothing.
-use Prim.Native.Nat.{ℕ, zero, suc, _+_, _-_, _≤_}
+use Prim.Native.Nat.{ℕ, zero, suc, _+_, _-_}
 use mathlib.Core.Bool.{Bool, true, false}
 use mathlib.Core.List.{List, [], _∷_}
 use mathlib.Core.Path.{_≡_}

@@ -4,7 +4,7 @@ use Prim.Native.Nat.{ℕ, _+_, _-_, _%_, _≤_, _<_}
 use mathlib.Core.Path.{_≡_}
 use mathlib.Core.Bool.{Bool, true, false}
 use mathlib.Core.List.{List}
-use lib.ListN.{length}
+use lib.ListN.{length, take}
 use Rattle.answer.specs.declared.Answer.{Answer}
 use Rattle.dataset.specs.Bytes.{OfBytes}
 use Rattle.dataset.specs.Header.{itemAt}
@@ -53,6 +53,12 @@ FilledIsRead =
     (d : List ℕ) (es : Elements) (next : ℕ) → OfBytes d → length d ≤ sizeLimit → ElementsFill es d false levels (length d) 0 0 next
     → dataSet d ≡ read es next
 
+-- "The first fault from the left is given": what stands behind the header that a fault speaks of, which has at most 12 bytes, does not change it.
+abbrev pub FirstFault : Type 0
+FirstFault =
+    (d e : List ℕ) (f : Answer) → dataSet d ≡ fault f → length e ≡ length d → take (f .position + 12) e ≡ take (f .position + 12) d
+    → dataSet e ≡ fault f
+
 -- The fuel that the definitions start with is enough: any number above the bytes that are left gives the same reading.
 pub record Enough (n : ℕ) (d : List ℕ) (delimited : Bool) (left stop at : ℕ) : Type 0 where
   pub elements : (least : ℕ) → elementsBy explicit n d delimited left stop at least ≡ elementsAt explicit d delimited left stop at least
@@ -95,6 +101,7 @@ pub record Theorems : Type 0 where
   pub faults-in-extents : FaultsInExtents
   pub in-order : InOrder
   pub filled-is-read : FilledIsRead
+  pub first-fault : FirstFault
   pub fuel-suffices : FuelSuffices
   pub unfolds : Unfolds
   pub value-inside : ValueInside
