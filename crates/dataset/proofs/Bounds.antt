@@ -1,4 +1,5 @@
--- What one header guarantees: it lies in its extent, what it says stands in the data set, and a refusal is numbered 2 to 8. Assumes nothing.
+-- What one header guarantees: it lies in its extent, what it says stands in the data set, and a refusal is numbered 2 to 8. Assumes
+-- nothing.
 use Prim.Native.Nat.{ℕ, _+_, _-_, _%_, _≤_, _<_}
 use mathlib.Core.Path.{_≡_, refl, sym, ap, _∙_}
 use mathlib.Core.Logic.{_≢_}

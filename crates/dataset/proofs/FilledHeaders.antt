@@ -48,7 +48,8 @@ no-delimiter : (d : List ℕ) (at : ℕ) → OfBytes d → num16 d at ≢ 0xFFFE
 unfolding tagAt num16
 no-delimiter d at b g e = g (omega (arith, b (at + 2), b (at + 2 + 1), e))
 
--- ---- the first four tests, which an element's header and an item's share: `bad` is the refusal with 2, and `rest` what the tests behind answer
+-- ---- the first four tests, which an element's header and an item's share
+-- `bad` is the refusal with 2, `rest` what the tests behind them answer
 abbrev first-tests : {A : Type 0} (bad : A) (end : ℕ → A) (rest : A) → List ℕ → (delimiter : ℕ) (delimited : Bool) (stop at : ℕ) → A
 first-tests bad end rest d delimiter delimited stop at =
     if outside d stop at then bad else

@@ -1,5 +1,5 @@
--- Where the parts of a tree lie, without the extents round them: what follows of `ElementsFill` (specs/Order.antt) and what later proofs build on.
--- Assumes nothing.
+-- Where the parts of a tree lie, without the extents round them: what follows of `ElementsFill` (specs/Order.antt) and what later proofs
+-- build on. Assumes nothing.
 use Prim.Native.Nat.{ℕ, _+_, _-_, _%_, _≤_, _<_}
 use mathlib.Core.Path.{_≡_}
 use mathlib.Core.List.{List, [], _∷_}

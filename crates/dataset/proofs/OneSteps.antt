@@ -1,5 +1,5 @@
--- What each place of the reader of one element does, with the facts of the place as premises: `search` applies these laws where the code has
--- the facts. Assumes nothing.
+-- What each place of the reader of one element does, with the facts of the place as premises: `search` applies these laws where the code
+-- has the facts. Assumes nothing.
 use Prim.Native.Nat.{ℕ, _-_, _≤_, _<_}
 use mathlib.Core.Path.{_≡_, refl, sym, ap, _∙_}
 use mathlib.Core.Bool.{Bool, true, false, true≢false}

@@ -1,5 +1,5 @@
--- The equations of the reading that name no fuel (`elements-are`, `items-are`, `fragments-are`), for any headers that stay in their extents: the
--- fuel is enough. Assumes nothing.
+-- The equations of the reading that name no fuel (`elements-are`, `items-are`, `fragments-are`), for any headers that stay in their
+-- extents: the fuel is enough. Assumes nothing.
 use Prim.Native.Nat.{ℕ, zero, suc, _+_, _-_, _≤_, _<_}
 use mathlib.Core.Path.{_≡_, refl, ap, _∙_}
 use mathlib.Core.Bool.{Bool, true, false}

@@ -1,5 +1,5 @@
--- What is read in an extent stays in it: its faults lie there, and what follows it is at most at the end. For any headers that stay in their
--- extents. Assumes nothing.
+-- What is read in an extent stays in it: its faults lie there, and what follows it is at most at the end. For any headers that stay in
+-- their extents. Assumes nothing.
 use Prim.Native.Nat.{ℕ, zero, suc, _-_, _≤_, _<_, _+_}
 use mathlib.Core.Path.{_≡_, refl}
 use mathlib.Core.Bool.{Bool, true, false}

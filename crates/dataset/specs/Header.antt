@@ -43,8 +43,8 @@ itemDelimiter = 0xFFFEE00D
 abbrev pub sequenceDelimiter : ℕ
 sequenceDelimiter = 0xFFFEE0DD
 
--- Not of 01 (docs/DECISIONS.md, R11): an extent that ends before `at`, or does not lie inside the data, has too few bytes. The reading never
--- asks this.
+-- Not of 01 (docs/DECISIONS.md, R11): an extent that ends before `at`, or does not lie inside the data, has too few bytes. The reading
+-- never asks this.
 abbrev pub outside : List ℕ → (stop at : ℕ) → Bool
 outside d stop at = ltb (length d) stop || ltb stop at
 

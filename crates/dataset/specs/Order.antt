@@ -1,5 +1,5 @@
--- Where the parts of a tree lie in the data set, and what stands there: the statement of what the reading guarantees (`InOrder` of
--- Theorems.antt). Assumes nothing.
+-- Where the parts of a tree lie in the data set, and what stands there: what the reading guarantees and what it accepts (`InOrder` and
+-- `FilledIsRead` of Theorems.antt). Assumes nothing.
 use Prim.Native.Nat.{ℕ, _+_, _-_, _%_, _≤_, _<_}
 use mathlib.Core.Path.{_≡_}
 use mathlib.Core.Logic.{_≢_}
@@ -61,9 +61,10 @@ FragmentsFill [] d stop at next = EndsIn d sequenceDelimiter true stop at next
 FragmentsFill (s ∷ ss) d stop at next =
     (tagAt d at ≡ itemTag) × (s .start ≡ at + 8) × HeaderExtent (num32 d (at + 4)) stop (s .start) (s .end) false × FragmentsFill ss d stop (s .end) next
 
--- An element, elements and items from `at` to what follows them at `next`, with `left` levels, in an extent up to `stop`, or before it at a
--- delimiter (`delimited`): each part starts where the one before it ends, an element's tag is at least `least`, and the tags of one data set
--- ascend. What a sequence or an item holds fills the extent that its length gives; a closing delimiter, of 8 bytes, is no part of the value.
+-- An element, elements and items from `at` to what follows them at `next`, with `left` levels, in an extent up to `stop`, or before it at
+-- a delimiter (`delimited`): each part starts where the one before it ends, an element's tag is at least `least`, and the tags of one
+-- data set ascend. What a sequence or an item holds fills the extent that its length gives; a closing delimiter, of 8 bytes, is no part
+-- of the value.
 unfoldable mutual
   pub ElementFills : Element → List ℕ → (left stop at next : ℕ) → Type 0
   ElementFills (value p tag vr span) d left stop at next =

@@ -34,8 +34,8 @@ pub data One : Type 0 where
   ended : One
   element : Element → One
 
--- The checks at one header, in an element's place and in the place of an item or fragment. The reading is defined over them; only `explicit`,
--- below, is used (docs/DECISIONS.md, R13).
+-- The checks at one header, in an element's place and in the place of an item or fragment. The reading is defined over them; only
+-- `explicit`, below, is used (docs/DECISIONS.md, R13).
 pub record Headers : Type 0 where
   pub element : List ℕ → (delimited : Bool) (left stop at least : ℕ) → ElementHeader
   pub item : List ℕ → (inSequence delimited : Bool) (stop at : ℕ) → ItemHeader
@@ -48,8 +48,8 @@ explicit = record { element = elementAt; item = itemAt }
 abbrev pub refusal : (at number : ℕ) → Answer
 refusal at number = answer.refused number at
 
--- One element, by its header. Handed in are the refusal, by its number, at this offset (`refuse`), and the readers of its items (`items`) and of
--- its fragments (`parts`). A closing delimiter, of 8 bytes, is no part of the value.
+-- One element, by its header. Handed in are the refusal, by its number, at this offset (`refuse`), and the readers of its items (`items`)
+-- and of its fragments (`parts`). A closing delimiter, of 8 bytes, is no part of the value.
 unfoldable pub byHeader : (refuse : (number : ℕ) → Answer) (items : (delimited : Bool) (stop start : ℕ) → Reading Items)
     (parts : (start : ℕ) → Reading (List Span)) (at : ℕ) → ElementHeader → Reading One
 byHeader refuse items parts at (elementHeader.Refused number) = fault (refuse number)
@@ -80,8 +80,8 @@ byItem refuse elements items at (itemHeader.Item start stop delimited) = do
   (rest, after) ← items next
   read (item at inside rest) after
 
--- Fragments are one fragment and the rest: "Their bytes aren't looked into". Handed in are the refusal, by its number, at this offset, and the
--- reader of the rest.
+-- Fragments are one fragment and the rest: "Their bytes aren't looked into". Handed in are the refusal, by its number, at this offset,
+-- and the reader of the rest.
 unfoldable pub byFragment : (refuse : (number : ℕ) → Answer) (parts : (next : ℕ) → Reading (List Span)) → ItemHeader → Reading (List Span)
 byFragment refuse parts (itemHeader.Refused number) = fault (refuse number)
 byFragment refuse parts (itemHeader.End next) = read [] next

@@ -30,8 +30,8 @@ pub record Refusal (lowest from upTo : ℕ) (f : Answer) : Type 0 where
 abbrev pub FaultsInside : Type 0
 FaultsInside = (d : List ℕ) (f : Answer) → dataSet d ≡ fault f → Refusal 1 0 (length d) f
 
--- In an extent inside the data, a refusal of what is read there, as one element, as elements, as items or as fragments, has one of the numbers
--- 2 to 8 and an offset in the extent, or at its end.
+-- In an extent inside the data, a refusal of what is read there, as one element, as elements, as items or as fragments, has one of the
+-- numbers 2 to 8 and an offset in the extent, or at its end.
 pub record FaultsIn (d : List ℕ) (delimited : Bool) (left stop at : ℕ) : Type 0 where
   pub one : (least : ℕ) (f : Answer) → oneAt explicit d delimited left stop at least ≡ fault f → Refusal 2 at stop f
   pub elements : (least : ℕ) (f : Answer) → elementsAt explicit d delimited left stop at least ≡ fault f → Refusal 2 at stop f
@@ -46,14 +46,15 @@ FaultsInExtents = (d : List ℕ) (delimited : Bool) (left stop at : ℕ) → at 
 abbrev pub InOrder : Type 0
 InOrder = (d : List ℕ) (es : Elements) (next : ℕ) → dataSet d ≡ read es next → ElementsFill es d false levels (length d) 0 0 next
 
--- And what fills a data set within the size is what is read: a data set is accepted exactly when a tree fills it, and only one does. (In a list
--- with numbers that are no bytes, an item delimiter could stand without group FFFE.)
+-- And what fills a data set within the size is what is read: a data set is accepted exactly when a tree fills it, and only one does. (In
+-- a list with numbers that are no bytes, an item delimiter could stand without group FFFE.)
 abbrev pub FilledIsRead : Type 0
 FilledIsRead =
     (d : List ℕ) (es : Elements) (next : ℕ) → OfBytes d → length d ≤ sizeLimit → ElementsFill es d false levels (length d) 0 0 next
     → dataSet d ≡ read es next
 
--- "The first fault from the left is given": what stands behind the header that a fault speaks of, which has at most 12 bytes, does not change it.
+-- "The first fault from the left is given": what stands behind the header that a fault speaks of, which has at most 12 bytes, does not
+-- change it.
 abbrev pub FirstFault : Type 0
 FirstFault =
     (d e : List ℕ) (f : Answer) → dataSet d ≡ fault f → length e ≡ length d → take (f .position + 12) e ≡ take (f .position + 12) d

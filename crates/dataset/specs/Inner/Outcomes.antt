@@ -1,5 +1,5 @@
--- For inner contracts; no part of what a reader has to believe. What the readers of items, fragments and elements answer, what a reader of one
--- element makes of it, and what is found after one element more. Assumes nothing.
+-- For inner contracts; no part of what a reader has to believe. What the readers of items, fragments and elements answer, what a reader
+-- of one element makes of it, and what is found after one element more. Assumes nothing.
 use Prim.Native.Nat.{ℕ, _-_, _≤_}
 use mathlib.Core.Bool.{Bool}
 use Rattle.answer.specs.If.{if_then_else_}
