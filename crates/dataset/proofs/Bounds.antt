@@ -1,4 +1,5 @@
--- What one header guarantees: it lies in its extent, what it says stands in the data set, and a refusal is numbered 2 to 8. Assumes nothing.
+-- What one header guarantees: it lies in its extent, what it says stands in the data set, and a refusal is numbered 2 to 8. Assumes
+-- nothing.
 use Prim.Native.Nat.{ℕ, _+_, _-_, _%_, _≤_, _<_}
 use mathlib.Core.Path.{_≡_, refl, sym, ap, _∙_}
 use mathlib.Core.Logic.{_≢_}
@@ -12,7 +13,7 @@ use Rattle.answer.specs.If.{if_then_else_}
 use Rattle.dataset.specs.Bytes.{num16, num32, tagAt, vrAt}
 use Rattle.dataset.specs.Vr.{formOf, oneOf, OB, SQ}
 use Rattle.dataset.specs.Header.{undefined, itemTag, itemDelimiter, sequenceDelimiter, outside, badLength, tooDeep, undefinedBy, definedBy, valueBy, longAt, byForm, vrOnAt, itemBy, endsAt, closedBy, elementAt, itemAt}
-use Rattle.dataset.specs.Order.{Tagged, Sized, ValueAt, NestAt, Extent, EndsIn}
+use Rattle.dataset.specs.Order.{Tagged, Sized, ValueAt, NestAt, HeaderExtent, EndsIn}
 use Rattle.dataset.specs.declared.vr.Form.{Form}
 use Rattle.dataset.specs.declared.vr.Form.the-variants.{Short, Long, Neither}
 use Rattle.dataset.specs.declared.header.ElementHeader.{ElementHeader}
@@ -40,7 +41,7 @@ pub record ItemSpan (d : List ℕ) (stop at start end : ℕ) (delimited : Bool) 
   pub order : start ≤ end
   pub inside : end ≤ stop
   pub even : delimited ≡ false → (end - start) % 2 ≡ 0
-  pub extent : Extent (num32 d (at + 4)) stop start end delimited
+  pub extent : HeaderExtent (num32 d (at + 4)) stop start end delimited
 
 abbrev pub ElementFacts : List ℕ → (delimited : Bool) (left stop at least : ℕ) → ElementHeader → Type 0
 ElementFacts d delimited left stop at least (element.Refused number) = Number number
@@ -48,7 +49,7 @@ ElementFacts d delimited left stop at least (element.End next) = EndAt d itemDel
 ElementFacts d delimited left stop at least (element.Value tag vr start end) = (least ≤ tag) × ValueAt d stop at tag vr start end
 ElementFacts d delimited left stop at least (element.Sequence tag start end inner) =
     (least ≤ tag) × NestAt d stop at tag SQ start × (start ≤ end) × (end ≤ stop) × (0 < left) × (stop ≤ length d)
-    × Extent (num32 d (at + 8)) stop start end inner
+    × HeaderExtent (num32 d (at + 8)) stop start end inner
 ElementFacts d delimited left stop at least (element.Fragments tag start) = (least ≤ tag) × NestAt d stop at tag OB start × (stop ≤ length d)
     × (num32 d (at + 8) ≡ undefined)
 
@@ -63,16 +64,19 @@ sized-long Short d at start n e s = absurd (true≢false (cc))
 sized-long Long d at start n e s = s
 sized-long Neither d at start n e s = absurd s
 
-pub sized-start : (f : Form) (d : List ℕ) (at start n : ℕ) → Sized f d at start n → at + 8 ≤ start
+sized-start : (f : Form) (d : List ℕ) (at start n : ℕ) → Sized f d at start n → at + 8 ≤ start
 sized-start Short d at start n s = let z = s .0 in omega arith
 sized-start Long d at start n s = let z = s .0 in omega arith
 sized-start Neither d at start n s = absurd s
 
-sq-long : formOf SQ ≡ Long
+pub value-start : (d : List ℕ) (stop at tag vr start end : ℕ) → ValueAt d stop at tag vr start end → at + 8 ≤ start
+value-start d stop at tag vr start end v = sized-start (formOf vr) d at start (end - start) (v .form)
+
+pub sq-long : formOf SQ ≡ Long
 unfolding formOf oneOf if_then_else_
 sq-long = refl
 
-ob-long : formOf OB ≡ Long
+pub ob-long : formOf OB ≡ Long
 unfolding formOf oneOf if_then_else_
 ob-long = refl
 
@@ -134,7 +138,6 @@ module _ (d : List ℕ) (delimited : Bool) (left stop at least : ℕ) (within : 
             letters = v;
             form = rw n s;
             plain = eqb-false vr SQ q;
-            header = sized-start (formOf vr) d at start len s;
             order = omega arith;
             inside = omega arith;
             even = rw n (defined-even vr len e1 e3);

@@ -1,4 +1,5 @@
--- Rules by which `search` follows a chain of checks, `if b then x else if ..`, from the tests that a place of the code has.
+-- Rules by which `search` follows a chain of checks, `if b then x else if ..`, from the tests that a place of the code has. Assumes
+-- nothing.
 use Prim.Native.Nat.{ℕ, _+_, _%_, _<_, _≤_}
 use mathlib.Core.List.{List}
 use mathlib.Core.Path.{_≡_, sym, _∙_}

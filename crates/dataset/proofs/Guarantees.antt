@@ -11,7 +11,8 @@ use Rattle.answer.specs.declared.Answer.{Answer}
 use Rattle.dataset.specs.Bytes.{num32}
 use Rattle.dataset.specs.Header.{itemDelimiter, elementAt, itemAt}
 use Rattle.dataset.specs.Tree.{Span, Elements, Items, tagOf}
-use Rattle.dataset.specs.Order.{Extent, EndsIn, PartsFill, ElementFills, ElementsFill, ItemsFill, ElementsLie}
+use Rattle.dataset.specs.Order.{HeaderExtent, EndsIn, FragmentsFill, ElementFills, ElementsFill, ItemsFill}
+use Rattle.dataset.proofs.Lies.{ElementsLie}
 use Rattle.dataset.specs.Reading.{Reading, fault, read, _>>=_, One, ended, element, explicit, refusal, byHeader, byOne, byItem, byFragment, fragmentsBy, elementsBy, itemsBy, fragmentsAt, elementsAt, itemsAt, oneAt, sizeLimit, levels, dataSet}
 use Rattle.dataset.specs.declared.header.ElementHeader.{ElementHeader}
 use Rattle.dataset.specs.declared.header.ElementHeader.the-variants as header
@@ -42,14 +43,14 @@ holds-map P Q (read a n) g h = g a n h
 
 -- ---- what is read from `at` on fills its extent
 abbrev PartsAre : List ℕ → (stop at : ℕ) → List Span → ℕ → Type 0
-PartsAre d stop at ss n = PartsFill ss d stop at n
+PartsAre d stop at ss n = FragmentsFill ss d stop at n
 
-abbrev OneFills : List ℕ → (delimited : Bool) (left stop floor at : ℕ) → One → ℕ → Type 0
-OneFills d delimited left stop floor at ended n = EndsIn d itemDelimiter delimited stop at n
-OneFills d delimited left stop floor at (element e) n = (floor ≤ tagOf e) × ElementFills e d left stop at n
+abbrev OneFills : List ℕ → (delimited : Bool) (left stop at least : ℕ) → One → ℕ → Type 0
+OneFills d delimited left stop at least ended n = EndsIn d itemDelimiter delimited stop at n
+OneFills d delimited left stop at least (element e) n = (least ≤ tagOf e) × ElementFills e d left stop at n
 
-abbrev ElementsAre : List ℕ → (delimited : Bool) (left stop floor at : ℕ) → Elements → ℕ → Type 0
-ElementsAre d delimited left stop floor at es n = ElementsFill es d delimited left stop floor at n
+abbrev ElementsAre : List ℕ → (delimited : Bool) (left stop at least : ℕ) → Elements → ℕ → Type 0
+ElementsAre d delimited left stop at least es n = ElementsFill es d delimited left stop at least n
 
 abbrev ItemsAre : List ℕ → (delimited : Bool) (left stop at : ℕ) → Items → ℕ → Type 0
 ItemsAre d delimited left stop at is n = ItemsFill is d delimited left stop at n
@@ -58,41 +59,41 @@ ItemsAre d delimited left stop at is n = ItemsFill is d delimited left stop at n
 module _ (d : List ℕ) (stop at : ℕ) (refuse : ℕ → Answer) where
   fragment-fills : (parts : ℕ → Reading (List Span)) (p : ItemHeader) → ItemFacts d false true stop at p
       → ((i : ℕ) → Holds (PartsAre d stop i) (parts i)) → Holds (PartsAre d stop at) (byFragment refuse parts p)
-  unfolding byFragment PartsFill
+  unfolding byFragment FragmentsFill
   fragment-fills parts (place.Refused number) h f = tt
   fragment-fills parts (place.End next) h f = h .ends
   fragment-fills parts (place.Item start end inner) h f =
       let k = h .0 in
-      let x : Extent (num32 d (at + 4)) stop start end false = rw (h .1 refl) at (k .extent) in
+      let x : HeaderExtent (num32 d (at + 4)) stop start end false = rw (h .1 refl) at (k .extent) in
       then-holds (PartsAre d stop end) (PartsAre d stop at) (parts end) _ (f end) λ ss n j. (k .tag, k .starts, x, j)
 
   header-fills : (delimited : Bool) (left least : ℕ) (items : Bool → ℕ → ℕ → Reading Items) (parts : ℕ → Reading (List Span)) (p : ElementHeader)
       → ElementFacts d delimited left stop at least p
       → ((inner : Bool) (end i : ℕ) → Holds (ItemsAre d inner left end i) (items inner end i))
-      → ((i : ℕ) → Holds (PartsAre d stop i) (parts i)) → Holds (OneFills d delimited left stop least at) (byHeader refuse items parts at p)
+      → ((i : ℕ) → Holds (PartsAre d stop i) (parts i)) → Holds (OneFills d delimited left stop at least) (byHeader refuse items parts at p)
   unfolding byHeader ElementFills
   header-fills delimited left least items parts (header.Refused number) h f g = tt
   header-fills delimited left least items parts (header.End next) h f g = h .ends
   header-fills delimited left least items parts (header.Value tag vr start end) h f g = (h .0, (refl, h .1, refl))
   header-fills delimited left least items parts (header.Sequence tag start end inner) h f g =
-      then-holds (ItemsAre d inner left end start) (OneFills d delimited left stop least at) (items inner end start) _ (f inner end start) λ is n j.
+      then-holds (ItemsAre d inner left end start) (OneFills d delimited left stop at least) (items inner end start) _ (f inner end start) λ is n j.
       (h .0, (inner, end, refl, h .1, h .4, h .6, j, refl))
   header-fills delimited left least items parts (header.Fragments tag start) h f g =
-      then-holds (PartsAre d stop start) (OneFills d delimited left stop least at) (parts start) _ (g start) λ ss n j.
+      then-holds (PartsAre d stop start) (OneFills d delimited left stop at least) (parts start) _ (g start) λ ss n j.
       (h .0, (refl, h .1, h .3, j, refl))
 
-  one-fills : (delimited : Bool) (left least : ℕ) (elements : ℕ → ℕ → Reading Elements) (o : One) (n : ℕ) → OneFills d delimited left stop least at o n
-      → ((i above : ℕ) → Holds (ElementsAre d delimited left stop above i) (elements i above))
-      → Holds (ElementsAre d delimited left stop least at) (byOne elements (o, n))
+  one-fills : (delimited : Bool) (left least : ℕ) (elements : ℕ → ℕ → Reading Elements) (o : One) (n : ℕ) → OneFills d delimited left stop at least o n
+      → ((i above : ℕ) → Holds (ElementsAre d delimited left stop i above) (elements i above))
+      → Holds (ElementsAre d delimited left stop at least) (byOne elements (o, n))
   unfolding byOne ElementsFill
   one-fills delimited left least elements ended n h f = h
   one-fills delimited left least elements (element e) n h f =
-      then-holds (ElementsAre d delimited left stop (tagOf e + 1) n) (ElementsAre d delimited left stop least at) (elements n (tagOf e + 1)) _
+      then-holds (ElementsAre d delimited left stop n (tagOf e + 1)) (ElementsAre d delimited left stop at least) (elements n (tagOf e + 1)) _
       (f n (tagOf e + 1)) λ es m j. (n, h .0, h .1, j)
 
   item-fills : (delimited : Bool) (left : ℕ) (elements : Bool → ℕ → ℕ → Reading Elements) (items : ℕ → Reading Items) (p : ItemHeader)
       → ItemFacts d true delimited stop at p
-      → ((inner : Bool) (end i : ℕ) → Holds (ElementsAre d inner (left - 1) end 0 i) (elements inner end i))
+      → ((inner : Bool) (end i : ℕ) → Holds (ElementsAre d inner (left - 1) end i 0) (elements inner end i))
       → ((i : ℕ) → Holds (ItemsAre d delimited left stop i) (items i))
       → Holds (ItemsAre d delimited left stop at) (byItem refuse elements items at p)
   unfolding byItem ItemsFill
@@ -100,15 +101,15 @@ module _ (d : List ℕ) (stop at : ℕ) (refuse : ℕ → Answer) where
   item-fills delimited left elements items (place.End next) h f g = h .ends
   item-fills delimited left elements items (place.Item start end inner) h f g =
       let s = h .0 .starts in
-      then-holds (ElementsAre d inner (left - 1) end 0 start) (ItemsAre d delimited left stop at) (elements inner end start) _ (f inner end start) λ es n k.
+      then-holds (ElementsAre d inner (left - 1) end start 0) (ItemsAre d delimited left stop at) (elements inner end start) _ (f inner end start) λ es n k.
       then-holds (ItemsAre d delimited left stop n) (ItemsAre d delimited left stop at) (items n) _ (g n) λ is m j. (
         inner,
         end,
         n,
         refl,
         h .0 .tag,
-        subst (λ (x : ℕ). Extent (num32 d (at + 4)) stop x end inner) s (h .0 .extent),
-        subst (λ (x : ℕ). ElementsFill es d inner (left - 1) end 0 x n) s k,
+        subst (λ (x : ℕ). HeaderExtent (num32 d (at + 4)) stop x end inner) s (h .0 .extent),
+        subst (λ (x : ℕ). ElementsFill es d inner (left - 1) end x 0 n) s k,
         j,
       )
 
@@ -123,10 +124,10 @@ mutual
   unfolding elementsBy
 
   elements-fill : (n : ℕ) (d : List ℕ) (delimited : Bool) (left stop at least : ℕ)
-      → Holds (ElementsAre d delimited left stop least at) (elementsBy explicit n d delimited left stop at least)
+      → Holds (ElementsAre d delimited left stop at least) (elementsBy explicit n d delimited left stop at least)
   elements-fill zero d delimited left stop at least = tt
   elements-fill (suc n) d delimited left stop at least =
-      then-holds (OneFills d delimited left stop least at) (ElementsAre d delimited left stop least at)
+      then-holds (OneFills d delimited left stop at least) (ElementsAre d delimited left stop at least)
       (byHeader (refusal at) (λ inner end i. itemsBy explicit n d inner left end i) (fragmentsBy explicit n d left stop) at (elementAt d delimited left stop at least))
       (byOne (λ i above. elementsBy explicit n d delimited left stop i above))
       (header-fills d stop at (refusal at) delimited left least (λ inner end i. itemsBy explicit n d inner left end i) (fragmentsBy explicit n d left stop)
@@ -150,24 +151,24 @@ pub elements-read : (d : List ℕ) (left stop at : ℕ) → stop ≤ length d �
     → Holds (ElementsIn d delimited left stop least at) (elementsAt explicit d delimited left stop at least)
 unfolding elementsAt
 elements-read d left stop at l delimited least =
-    holds-map (ElementsAre d delimited left stop least at) (ElementsIn d delimited left stop least at) (elementsAt explicit d delimited left stop at least)
+    holds-map (ElementsAre d delimited left stop at least) (ElementsIn d delimited left stop least at) (elementsAt explicit d delimited left stop at least)
     (λ es n. elements-in es d delimited left stop least at n l) (elements-fill (suc (stop - at)) d delimited left stop at least)
 
-abbrev pub OneIs : List ℕ → (delimited : Bool) (left stop floor at : ℕ) → One → ℕ → Type 0
-OneIs d delimited left stop floor at ended n = EndsIn d itemDelimiter delimited stop at n
-OneIs d delimited left stop floor at (element e) n = ElementIn d left stop floor at e n
+abbrev pub OneIs : List ℕ → (delimited : Bool) (left stop least at : ℕ) → One → ℕ → Type 0
+OneIs d delimited left stop least at ended n = EndsIn d itemDelimiter delimited stop at n
+OneIs d delimited left stop least at (element e) n = ElementIn d left stop least at e n
 
 pub one-read : (d : List ℕ) (left stop at : ℕ) → stop ≤ length d → (delimited : Bool) (least : ℕ)
     → Holds (OneIs d delimited left stop least at) (oneAt explicit d delimited left stop at least)
 unfolding oneAt itemsAt fragmentsAt
 one-read d left stop at l delimited least =
-    holds-map (OneFills d delimited left stop least at) (OneIs d delimited left stop least at) (oneAt explicit d delimited left stop at least) go
+    holds-map (OneFills d delimited left stop at least) (OneIs d delimited left stop least at) (oneAt explicit d delimited left stop at least) go
     (header-fills d stop at (refusal at) delimited left least (λ inner. itemsAt explicit d inner left) (fragmentsAt explicit d left stop)
     (elementAt d delimited left stop at least) (element-facts d delimited left stop at least)
     (λ inner end i. items-fill (suc (end - i)) d inner left end i)
     (λ i. fragments-fill (suc (stop - i)) d left stop i))
   where
-    go : (o : One) (n : ℕ) → OneFills d delimited left stop least at o n → OneIs d delimited left stop least at o n
+    go : (o : One) (n : ℕ) → OneFills d delimited left stop at least o n → OneIs d delimited left stop least at o n
     go ended n h = h
     go (element e) n h = element-in e d left stop least at n l (h .0) (h .1)
 

@@ -2,11 +2,16 @@ pub mod Checks
 pub mod Bools
 pub mod Bounds
 pub mod Bounded
+pub mod Within
 pub mod Unfolding
 pub mod Outcomes
 pub mod OneSteps
 pub mod Steps
 pub mod Guarantees
+pub mod Lies
 pub mod Order
+pub mod FilledHeaders
+pub mod Filled
+pub mod FirstFault
 pub mod LookupSteps
 pub mod Theorems

@@ -1,4 +1,4 @@
--- What one turn of `elementOf`'s loop does, with the facts of the place as premises; and where what is found lies. Assumes nothing.
+-- What one turn of `find`'s loop does, with the facts of the place as premises; and where what is found lies. Assumes nothing.
 use Prim.Native.Nat.{ℕ, _+_, _-_, _≤_, _<_}
 use mathlib.Core.Path.{_≡_, refl, sym, _∙_, subst}
 use mathlib.Core.Bool.{Bool, true, false}
@@ -11,9 +11,10 @@ use Rattle.answer.specs.declared.Answer.{Answer}
 use Rattle.answer.specs.Answer as answer
 use Rattle.answer.specs.If.{if_then_else_}
 use Rattle.dataset.specs.Tree.{Element, Elements, none, and, tagOf, spanOf}
-use Rattle.dataset.specs.Order.{ElementsLie}
+use Rattle.dataset.proofs.Lies.{ElementsLie}
 use Rattle.dataset.specs.Reading.{Reading, fault, read, _>>=_, One, ended, element, explicit, byOne, elementsAt, oneAt, sizeLimit, levels, dataSet, oneOutcomeOf}
-use Rattle.dataset.specs.Lookup.{elementOf, absent, present, foundOf, foundIn, found, orNext}
+use Rattle.dataset.specs.Lookup.{elementOf, absent, present, foundOf, foundIn, found}
+use Rattle.dataset.specs.Inner.Outcomes.{orNext}
 use Rattle.dataset.specs.declared.lookup.Found.{Found}
 use Rattle.dataset.specs.declared.reading.OneOutcome.{OneOutcome}
 use Rattle.dataset.specs.declared.reading.OneOutcome.the-variants as one
@@ -145,10 +146,10 @@ find-over d tag g x h e w = w ∙ rw (e, data-set-over d h)
 Inside : List ℕ → Found → Type 0
 Inside d f = f .start + f .length ≤ length d
 
-find-inside : (es : Elements) (tag : ℕ) (d : List ℕ) (left floor at next : ℕ) → ElementsLie es d left floor at next → Inside d (foundOf (length d) (elementOf tag es))
+find-inside : (es : Elements) (tag : ℕ) (d : List ℕ) (left least at next : ℕ) → ElementsLie es d left least at next → Inside d (foundOf (length d) (elementOf tag es))
 unfolding ElementsLie elementOf Inside foundOf if_then_else_
-find-inside none tag d left floor at next r = omega arith
-find-inside (and e es) tag d left floor at next r =
+find-inside none tag d left least at next r = omega arith
+find-inside (and e es) tag d left least at next r =
     let s = span-inside e d left at (r .0) (r .2) in
     go (eqb (tagOf e) tag) (omega (arith, s .order, s .inside)) (find-inside es tag d left (tagOf e + 1) (r .0) next (r .3))
   where

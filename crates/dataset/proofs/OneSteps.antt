@@ -1,5 +1,5 @@
--- What each place of the reader of one element does, with the facts of the place as premises: `search` applies these laws where the code has
--- the facts. Assumes nothing.
+-- What each place of the reader of one element does, with the facts of the place as premises: `search` applies these laws where the code
+-- has the facts. Assumes nothing.
 use Prim.Native.Nat.{ℕ, _-_, _≤_, _<_}
 use mathlib.Core.Path.{_≡_, refl, sym, ap, _∙_}
 use mathlib.Core.Bool.{Bool, true, false, true≢false}
@@ -11,7 +11,8 @@ use Rattle.answer.specs.If.{if_then_else_}
 use Rattle.dataset.specs.Vr.{OB, SQ}
 use Rattle.dataset.specs.Header.{elementAt}
 use Rattle.dataset.specs.Tree.{Element}
-use Rattle.dataset.specs.Reading.{Reading, fault, read, _>>=_, One, explicit, refusal, byHeader, fragmentsAt, itemsAt, oneAt, outcomeOf, oneOutcomeOf, PastDelimiter, holdingOf}
+use Rattle.dataset.specs.Reading.{Reading, fault, read, _>>=_, One, explicit, refusal, byHeader, fragmentsAt, itemsAt, oneAt, oneOutcomeOf}
+use Rattle.dataset.specs.Inner.Outcomes.{outcomeOf, PastDelimiter, holdingOf}
 use Rattle.dataset.specs.declared.header.ElementHeader.{ElementHeader}
 use Rattle.dataset.specs.declared.header.ElementHeader.the-variants as header
 use Rattle.dataset.specs.declared.reading.Outcome.{Outcome}

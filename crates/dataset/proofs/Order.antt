@@ -9,32 +9,34 @@ use lib.ListN.{length}
 use Rattle.answer.specs.If.{if_then_else_}
 use Rattle.dataset.specs.Vr.{formOf, OB, SQ}
 use Rattle.dataset.specs.Tree.{Span, Element, value, sequence, fragments, Elements, none, and, Items, last, item, tagOf, spanOf}
-use Rattle.dataset.specs.Order.{Sized, ValueAt, NestAt, Extent, EndsIn, PartsFill, ElementFills, ElementsFill, ItemsFill, Ends, Closes, PartsLie, ElementLies, ElementsLie, ItemsLie}
+use Rattle.dataset.specs.Order.{Sized, ValueAt, NestAt, HeaderExtent, EndsIn, FragmentsFill, ElementFills, ElementsFill, ItemsFill}
+use Rattle.dataset.proofs.Bounds.{value-start}
+use Rattle.dataset.proofs.Lies.{Ends, Closes, FragmentsLie, ElementLies, ElementsLie, ItemsLie}
 use Rattle.dataset.specs.declared.vr.Form.{Form}
 use Rattle.dataset.specs.declared.vr.Form.the-variants.{Short, Long, Neither}
 
 -- ---- what fills an extent from `at` to `stop`, inside the data set
 
-pub record ElementIn (d : List ℕ) (left stop floor at : ℕ) (e : Element) (n : ℕ) : Type 0 where
+pub record ElementIn (d : List ℕ) (left stop least at : ℕ) (e : Element) (n : ℕ) : Type 0 where
   pub tree : ElementLies e d left at n
-  pub ascends : floor ≤ tagOf e
+  pub ascends : least ≤ tagOf e
   pub past : at < n
   pub inside : n ≤ stop
 
-pub record ElementsIn (d : List ℕ) (delimited : Bool) (left stop floor at : ℕ) (es : Elements) (n : ℕ) : Type 0 where
-  pub tree : ElementsLie es d left floor at n
+pub record ElementsIn (d : List ℕ) (delimited : Bool) (left stop least at : ℕ) (es : Elements) (n : ℕ) : Type 0 where
+  pub tree : ElementsLie es d left least at n
   pub order : at ≤ n
   pub inside : n ≤ stop
   pub filled : delimited ≡ false → n ≡ stop
 
-record ItemsIn (d : List ℕ) (delimited : Bool) (left stop at : ℕ) (is : Items) (n : ℕ) : Type 0 where
+pub record ItemsIn (d : List ℕ) (delimited : Bool) (left stop at : ℕ) (is : Items) (n : ℕ) : Type 0 where
   pub tree : ItemsLie is d left at n
   pub order : at ≤ n
   pub inside : n ≤ stop
   pub closed : delimited ≡ true → at + 8 ≤ n
 
-record PartsIn (d : List ℕ) (stop at : ℕ) (ss : List Span) (n : ℕ) : Type 0 where
-  pub tree : PartsLie ss d at n
+pub record PartsIn (d : List ℕ) (stop at : ℕ) (ss : List Span) (n : ℕ) : Type 0 where
+  pub tree : FragmentsLie ss d at n
   pub inside : n ≤ stop
   pub closed : at + 8 ≤ n
 
@@ -64,7 +66,7 @@ end-in d delimiter false stop at n l h =
       closed = λ x. absurd (false≢true x);
     }
 
-extent-inside : (n stop start end : ℕ) (delimited : Bool) → Extent n stop start end delimited → end ≤ stop
+pub extent-inside : (n stop start end : ℕ) (delimited : Bool) → HeaderExtent n stop start end delimited → end ≤ stop
 extent-inside n stop start end true h = let e = h .1 in omega arith
 extent-inside n stop start end false h = h .2
 
@@ -74,7 +76,6 @@ value-in d stop at tag vr start end l v = record {
   letters = v .letters;
   form = v .form;
   plain = v .plain;
-  header = v .header;
   order = v .order;
   inside = omega (arith, v .inside);
   even = v .even;
@@ -89,8 +90,8 @@ unfolding if_then_else_
 span-closes true s n e h f = let k = f refl in record { order = omega arith; inside = omega arith }
 span-closes false s n e h f = record { order = omega arith; inside = omega arith }
 
-parts-in : (ss : List Span) (d : List ℕ) (stop at n : ℕ) → stop ≤ length d → PartsFill ss d stop at n → PartsIn d stop at ss n
-unfolding PartsFill PartsLie
+pub parts-in : (ss : List Span) (d : List ℕ) (stop at n : ℕ) → stop ≤ length d → FragmentsFill ss d stop at n → PartsIn d stop at ss n
+unfolding FragmentsFill FragmentsLie
 parts-in [] d stop at n l r =
     let k = end-in d _ true stop at n l r in record { tree = k .tree; inside = k .inside; closed = k .closed refl }
 parts-in (s ∷ ss) d stop at n l r =
@@ -106,17 +107,17 @@ parts-in (s ∷ ss) d stop at n l r =
 mutual
   unfolding ElementFills ElementLies if_then_else_
 
-  pub element-in : (e : Element) (d : List ℕ) (left stop floor at n : ℕ) → stop ≤ length d → floor ≤ tagOf e → ElementFills e d left stop at n
-      → ElementIn d left stop floor at e n
-  element-in (value p tag vr s) d left stop floor at n l o r =
+  pub element-in : (e : Element) (d : List ℕ) (left stop least at n : ℕ) → stop ≤ length d → least ≤ tagOf e → ElementFills e d left stop at n
+      → ElementIn d left stop least at e n
+  element-in (value p tag vr s) d left stop least at n l o r =
       let v = r .1 in
       record {
         tree = (r .0, value-in d stop at tag vr (s .start) (s .end) l v, r .2);
         ascends = o;
-        past = omega (arith, v .header, v .order, r .2);
+        past = omega (arith, value-start d stop at tag vr (s .start) (s .end) v, v .order, r .2);
         inside = omega (arith, v .inside, r .2);
       }
-  element-in (sequence p tag s is) d left stop floor at n l o r =
+  element-in (sequence p tag s is) d left stop least at n l o r =
       let v = r .3 in
       let x = extent-inside _ stop (s .start) (r .1) (r .0) (r .5) in
       let j = items-in is d (r .0) left (r .1) (s .start) n (omega (arith, l, x)) (r .6) in
@@ -126,7 +127,7 @@ mutual
         past = omega (arith, v .starts, j .order);
         inside = omega (arith, j .inside, x);
       }
-  element-in (fragments p tag s ss) d left stop floor at n l o r =
+  element-in (fragments p tag s ss) d left stop least at n l o r =
       let v = r .1 in
       let j = parts-in ss d stop (s .start) n l (r .3) in
       record {
@@ -136,16 +137,16 @@ mutual
         inside = j .inside;
       }
 
-  pub elements-in : (es : Elements) (d : List ℕ) (delimited : Bool) (left stop floor at n : ℕ) → stop ≤ length d
-      → ElementsFill es d delimited left stop floor at n → ElementsIn d delimited left stop floor at es n
-  elements-in none d delimited left stop floor at n l r =
+  pub elements-in : (es : Elements) (d : List ℕ) (delimited : Bool) (left stop least at n : ℕ) → stop ≤ length d
+      → ElementsFill es d delimited left stop at least n → ElementsIn d delimited left stop least at es n
+  elements-in none d delimited left stop least at n l r =
       let k = end-in d _ delimited stop at n l r in record { tree = k .tree; order = k .tree .order; inside = k .inside; filled = k .filled }
-  elements-in (and e es) d delimited left stop floor at n l r =
-      let h = element-in e d left stop floor at (r .0) l (r .1) (r .2) in
+  elements-in (and e es) d delimited left stop least at n l r =
+      let h = element-in e d left stop least at (r .0) l (r .1) (r .2) in
       let j = elements-in es d delimited left stop (tagOf e + 1) (r .0) n l (r .3) in
       record { tree = (r .0, r .1, h .tree, j .tree); order = omega (arith, h .past, j .order); inside = j .inside; filled = j .filled }
 
-  items-in : (is : Items) (d : List ℕ) (delimited : Bool) (left stop at n : ℕ) → stop ≤ length d → ItemsFill is d delimited left stop at n
+  pub items-in : (is : Items) (d : List ℕ) (delimited : Bool) (left stop at n : ℕ) → stop ≤ length d → ItemsFill is d delimited left stop at n
       → ItemsIn d delimited left stop at is n
   items-in last d delimited left stop at n l r =
       let k = end-in d _ delimited stop at n l r in record { tree = k .tree; order = k .tree .order; inside = k .inside; closed = k .closed }
@@ -167,8 +168,8 @@ sized-even Short d at start n s = omega (arith, s .0)
 sized-even Long d at start n s = omega (arith, s .0)
 sized-even Neither d at start n s = absurd s
 
-pub parts-ends : (ss : List Span) (d : List ℕ) (at next : ℕ) → PartsLie ss d at next → Ends d at next
-unfolding PartsLie
+pub parts-ends : (ss : List Span) (d : List ℕ) (at next : ℕ) → FragmentsLie ss d at next → Ends d at next
+unfolding FragmentsLie
 parts-ends [] d at next r = r
 parts-ends (s ∷ ss) d at next r =
     let k = parts-ends ss d (s .end) next (r .4) in
@@ -194,19 +195,20 @@ mutual
   element-ends (value p tag vr span) d left at next r =
       let v = r .1 in
       let s = sized-even (formOf vr) d at (span .start) (span .end - span .start) (v .form) in
+      let z = value-start d (length d) at tag vr (span .start) (span .end) v in
       record {
-        header = omega (arith, v .header, v .order, r .2);
+        header = omega (arith, z, v .order, r .2);
         inside = omega (arith, v .inside, r .2);
-        even = omega (arith, s, v .even, v .header, v .order, r .2);
+        even = omega (arith, s, z, v .even, v .order, r .2);
       }
   element-ends (sequence p tag span items) d left at next r =
       nest-ends d at tag _ (span .start) next (r .1) (items-end items d left (span .start) next (r .4))
   element-ends (fragments p tag span parts) d left at next r =
       nest-ends d at tag _ (span .start) next (r .1) (parts-ends parts d (span .start) next (r .3))
 
-  pub elements-end : (es : Elements) (d : List ℕ) (left floor at next : ℕ) → ElementsLie es d left floor at next → Ends d at next
-  elements-end none d left floor at next r = r
-  elements-end (and e es) d left floor at next r =
+  pub elements-end : (es : Elements) (d : List ℕ) (left least at next : ℕ) → ElementsLie es d left least at next → Ends d at next
+  elements-end none d left least at next r = r
+  elements-end (and e es) d left least at next r =
       let h = element-ends e d left at (r .0) (r .2) in
       let k = elements-end es d left (tagOf e + 1) (r .0) next (r .3) in
       record {

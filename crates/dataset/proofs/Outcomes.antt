@@ -6,12 +6,13 @@ use mathlib.Core.List.{List}
 use native.Mathlib.Omega.{arith}
 use Rattle.answer.specs.declared.Answer.{Answer}
 use Rattle.dataset.specs.Tree.{Element, tagOf, vrOf, spanOf}
-use Rattle.dataset.specs.Reading.{Reading, fault, read, _>>=_, One, ended, element, explicit, fragmentsAt, elementsAt, itemsAt, outcomeOf, oneOutcomeOf}
+use Rattle.dataset.specs.Reading.{Reading, fault, read, _>>=_, One, ended, element, explicit, fragmentsAt, elementsAt, itemsAt, oneOutcomeOf}
+use Rattle.dataset.specs.Inner.Outcomes.{outcomeOf}
 use Rattle.dataset.specs.declared.reading.Outcome.{Outcome}
 use Rattle.dataset.specs.declared.reading.Outcome.the-variants as outcome
 use Rattle.dataset.specs.declared.reading.OneOutcome.the-variants as one
 use Rattle.dataset.proofs.Bounded.{explicit-bounded}
-use Rattle.dataset.proofs.Unfolding.{Within, fragments-within, elements-within, items-within}
+use Rattle.dataset.proofs.Within.{Within, fragments-within, elements-within, items-within}
 
 -- ---- what a reader answers of one reading after another
 pub last : {A B : Type 0} (p : Reading A) (k : A × ℕ → Reading B) → ((a : A) (n : ℕ) → outcomeOf (k (a, n)) ≡ outcome.Next n) → outcomeOf (p >>= k) ≡ outcomeOf p

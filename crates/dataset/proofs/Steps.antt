@@ -1,5 +1,5 @@
--- What each turn of the readers' loops does, with the facts of the place as premises: `search` applies these laws where the code has the facts.
--- Assumes nothing.
+-- What each turn of the readers' loops does, with the facts of the place as premises: `search` applies these laws where the code has the
+-- facts. Assumes nothing.
 use Prim.Native.Nat.{ℕ, _+_, _-_, _≤_, _<_}
 use mathlib.Core.Path.{_≡_, refl, sym, ap, _∙_}
 use mathlib.Core.Bool.{Bool, true, false}
@@ -12,7 +12,8 @@ use Rattle.answer.specs.Answer as answer
 use Rattle.answer.specs.If.{if_then_else_}
 use Rattle.dataset.specs.Header.{itemAt}
 use Rattle.dataset.specs.Tree.{Element}
-use Rattle.dataset.specs.Reading.{Reading, fault, read, _>>=_, One, ended, element, explicit, refusal, byOne, byItem, byFragment, fragmentsAt, elementsAt, itemsAt, oneAt, sizeLimit, levels, dataSet, answerOf, outcomeOf, oneOutcomeOf}
+use Rattle.dataset.specs.Reading.{Reading, fault, read, _>>=_, One, ended, element, explicit, refusal, byOne, byItem, byFragment, fragmentsAt, elementsAt, itemsAt, oneAt, sizeLimit, levels, dataSet, answerOf, oneOutcomeOf}
+use Rattle.dataset.specs.Inner.Outcomes.{outcomeOf}
 use Rattle.dataset.specs.declared.header.ItemHeader.{ItemHeader}
 use Rattle.dataset.specs.declared.header.ItemHeader.the-variants as place
 use Rattle.dataset.specs.declared.reading.Outcome.{Outcome}
@@ -21,7 +22,8 @@ use Rattle.dataset.specs.declared.reading.OneOutcome.{OneOutcome}
 use Rattle.dataset.specs.declared.reading.OneOutcome.the-variants as one
 use Rattle.dataset.proofs.Bounds.{ItemFacts, item-facts}
 use Rattle.dataset.proofs.Bounded.{explicit-bounded}
-use Rattle.dataset.proofs.Unfolding.{OneIn, one-in, fragments-are, elements-are, items-are}
+use Rattle.dataset.proofs.Within.{OneIn, one-in}
+use Rattle.dataset.proofs.Unfolding.{fragments-are, elements-are, items-are}
 use Rattle.dataset.proofs.Outcomes.{last, then-next, is-fault, is-read, elements-next, is-one-fault, is-one-end, IsElement, is-element}
 
 -- ---- the loops' invariants: `at` lies in the extent, and what is read from `from` on is answered as what is read from `at` on

@@ -14,12 +14,15 @@ use Rattle.answer.specs.Answer as answer
 use Rattle.dataset.specs.Tree.{Element, Elements}
 use Rattle.dataset.specs.Lookup.{elementOf, foundOf, foundIn, found}
 use Rattle.dataset.proofs.LookupSteps.{found-inside}
-use Rattle.dataset.specs.Reading.{Reading, fault, read, One, ended, element, explicit, elementsAt, oneAt, sizeLimit, levels, dataSet, answerOf, WellFormed}
-use Rattle.dataset.specs.Theorems.{EvenLength, FaultsOfOne, ValueInside, Theorems}
+use Rattle.dataset.specs.Reading.{Reading, fault, read, One, ended, element, explicit, elementsAt, itemsAt, fragmentsAt, oneAt, sizeLimit, levels, dataSet, answerOf, WellFormed}
+use Rattle.dataset.specs.Theorems.{EvenLength, Refusal, FaultsInExtents, ValueInside, Theorems}
 use Rattle.dataset.proofs.Bounded.{explicit-bounded}
-use Rattle.dataset.proofs.Unfolding.{Within, FaultIn, elements-within, elements-enough, items-enough, fragments-enough, OneIn, one-in, elements-are, items-are, fragments-are}
+use Rattle.dataset.proofs.Within.{Within, FaultIn, OneIn, fragments-within, elements-within, items-within, one-in}
+use Rattle.dataset.proofs.Unfolding.{elements-enough, items-enough, fragments-enough, elements-are, items-are, fragments-are}
 use Rattle.dataset.proofs.Steps.{data-set-is, data-set-over}
 use Rattle.dataset.proofs.Guarantees.{data-set-read}
+use Rattle.dataset.proofs.Filled.{filled-is-read}
+use Rattle.dataset.proofs.FirstFault.{first-fault}
 use Rattle.dataset.proofs.Order.{elements-end}
 
 within-fault : {A : Type 0} (lo hi : ℕ) (p : Reading A) (f : Answer) → Within lo hi p → p ≡ fault f → FaultIn lo hi f
@@ -53,42 +56,58 @@ one-fault lo hi (fault g) f w e = let q : g ≡ f = cc in rw (← q) w
 one-fault lo hi (read ended n) f w e = absurd (true≢false (cc))
 one-fault lo hi (read (element x) n) f w e = absurd (true≢false (cc))
 
-faults-of-one : FaultsOfOne
-faults-of-one d delimited left stop at least f h l e =
-    let w = one-fault at stop (oneAt explicit d delimited left stop at least) f (one-in explicit explicit-bounded d delimited left stop at least h) e in
-    record { fromLowest = w .number .0; upTo8 = w .number .1; after = w .order; inside = w .inside; noLength = w .nothing }
+refusal-in : (lo hi : ℕ) (f : Answer) → FaultIn lo hi f → Refusal 2 lo hi f
+refusal-in lo hi f w = record { fromLowest = w .number .0; upTo8 = w .number .1; after = w .order; inside = w .inside; noLength = w .nothing }
 
--- a well-formed data set is read
-pub record IsTree (d : List ℕ) : Type 0 where
-  pub elements : Elements
-  pub next : ℕ
-  pub is : dataSet d ≡ read elements next
+faults-in-extents : FaultsInExtents
+unfolding elementsAt itemsAt fragmentsAt
+faults-in-extents d delimited left stop at h l = record {
+  one = λ least f e. refusal-in at stop f
+      (one-fault at stop (oneAt explicit d delimited left stop at least) f (one-in explicit explicit-bounded d delimited left stop at least h) e);
+  elements = λ least f e. refusal-in at stop f
+      (within-fault at stop (elementsAt explicit d delimited left stop at least) f (elements-within explicit explicit-bounded (suc (stop - at)) d delimited left stop at least h (omega arith)) e);
+  items = λ f e. refusal-in at stop f
+      (within-fault at stop (itemsAt explicit d delimited left stop at) f (items-within explicit explicit-bounded (suc (stop - at)) d delimited left stop at h (omega arith)) e);
+  fragments = λ f e. refusal-in at stop f
+      (within-fault at stop (fragmentsAt explicit d left stop at) f (fragments-within explicit explicit-bounded (suc (stop - at)) d left stop at h (omega arith)) e);
+}
 
-pub well-formed-read : (d : List ℕ) → WellFormed d → IsTree d
-well-formed-read d w = go (dataSet d) refl
+-- well-formed is what is answered with number 0
+pub well-formed-accepted : (d : List ℕ) → WellFormed d → answerOf (dataSet d) ≡ answer.accepted 0
+well-formed-accepted d w = ap answerOf (w .2)
+
+pub accepted-well-formed : (d : List ℕ) → answerOf (dataSet d) ≡ answer.accepted 0 → WellFormed d
+accepted-well-formed d w = go (dataSet d) refl
   where
-    go : (p : Reading Elements) → dataSet d ≡ p → IsTree d
+    go : (p : Reading Elements) → dataSet d ≡ p → WellFormed d
     go (fault f) e =
         let r = faults-inside d f e in
         let z : f ≡ answer.accepted 0 = sym (ap answerOf e) ∙ w in
         let n : f .number ≡ 0 = ap (λ (a : Answer). a .number) z in
         absurd (omega (arith, r .least, n))
-    go (read es n) e = record { elements = es; next = n; is = e }
+    go (read es n) e = (es, n, e)
 
 even-length : EvenLength
 even-length d w =
-    let t = well-formed-read d w in
-    let r = data-set-read d (t .elements) (t .next) (t .is) in
-    let k = elements-end (t .elements) d levels 0 0 (t .next) (r .tree) in
+    let r = data-set-read d (w .0) (w .1) (w .2) in
+    let k = elements-end (w .0) d levels 0 0 (w .1) (r .tree) in
     omega (arith, k .even, r .whole)
 
 value-inside : ValueInside
 unfolding found foundIn foundOf
-value-inside d tag = record { inside = found-inside d tag (found d tag) refl; stands = go (dataSet d); otherwise = other (dataSet d) }
+value-inside d tag = record { inside = found-inside d tag (found d tag) refl; answered = says (dataSet d); stands = go (dataSet d) refl; otherwise = other (dataSet d) }
   where
-    go : (p : Reading Elements) → foundIn (length d) tag p .present ≡ true → answerOf p ≡ answer.accepted 0
-    go (fault f) e = absurd (false≢true e)
-    go (read es n) e = refl
+    accepts : (o : Option Element) → foundOf (length d) o .answer ≡ answer.accepted 0
+    accepts Opt.none = refl
+    accepts (some x) = refl
+
+    says : (p : Reading Elements) → foundIn (length d) tag p .answer ≡ answerOf p
+    says (fault f) = refl
+    says (read es n) = accepts (elementOf tag es)
+
+    go : (p : Reading Elements) → dataSet d ≡ p → foundIn (length d) tag p .present ≡ true → WellFormed d
+    go (fault f) q e = absurd (false≢true e)
+    go (read es n) q e = (es, n, q)
 
     missing : (o : Option Element) → foundOf (length d) o .present ≡ false → (foundOf (length d) o .start ≡ length d) × (foundOf (length d) o .length ≡ 0)
     missing Opt.none e = (refl, refl)
@@ -102,8 +121,10 @@ pub theorems : Theorems
 theorems = record {
   even-length = even-length;
   faults-inside = λ d f e. let r = faults-inside d f e in record { fromLowest = r .least; upTo8 = r .most; after = omega arith; inside = r .inside; noLength = r .nothing };
-  faults-of-one = faults-of-one;
+  faults-in-extents = faults-in-extents;
   in-order = λ d es next e. data-set-read d es next e .fills;
+  filled-is-read = filled-is-read;
+  first-fault = first-fault;
   fuel-suffices = λ n d delimited left stop at h l. record {
     elements = λ least. elements-enough explicit explicit-bounded n d delimited left stop at least h l;
     items = items-enough explicit explicit-bounded n d delimited left stop at h l;

@@ -1,7 +1,13 @@
 -- Numbers, tags and VRs as a data set codes them. Assumes nothing.
-use Prim.Native.Nat.{ℕ, _+_, _-_, _*_}
+use Prim.Native.Nat.{ℕ, _+_, _-_, _*_, _<_}
 use mathlib.Core.List.{List}
-use lib.ListN.{getD, take, drop}
+use lib.ListN.{length, getD, take, drop}
+use lib.Dec.{leb}
+use Rattle.answer.specs.If.{if_then_else_}
+
+-- a list of bytes
+abbrev pub OfBytes : List ℕ → Type 0
+OfBytes d = (i : ℕ) → getD d i 0 < 256
 
 -- the two-byte number at i, of group and element numbers, and lengths: "two bytes each, low byte first" (PS3.5, 7.3)
 unfoldable pub num16 : List ℕ → ℕ → ℕ
@@ -14,6 +20,10 @@ num32 d i = num16 d i + 65536 * num16 d (i + 2)
 -- the tag at i: "A tag compares as group x 65,536 + element."
 unfoldable pub tagAt : List ℕ → ℕ → ℕ
 tagAt d i = num16 d i * 65536 + num16 d (i + 2)
+
+-- the tag at i, or 0 where four bytes do not stand there (not of 01: the product never asks it outside a list)
+unfoldable pub tagIn : List ℕ → ℕ → ℕ
+tagIn s i = if leb (i + 4) (length s) then tagAt s i else 0
 
 -- a VR by the codes of its two letters, as one number
 abbrev pub vr : (first second : ℕ) → ℕ

@@ -6,3 +6,5 @@ pub mod Reading
 pub mod Lookup
 pub mod Order
 pub mod Theorems
+-- for inner contracts; a reader need not believe it
+pub mod Inner

@@ -18,7 +18,7 @@ use Rattle.dataset.specs.declared.lookup.Found.{Found}
 -- Found (src/lookup.rt): answer present start length
 
 -- the element of a "top-level tag": items are not searched
-unfoldable pub elementOf : ℕ → Elements → Option Element
+unfoldable pub elementOf : (tag : ℕ) → Elements → Option Element
 elementOf tag none = Opt.none
 elementOf tag (and e rest) = if eqb (tagOf e) tag then some e else elementOf tag rest
 
@@ -30,7 +30,7 @@ absent a size = record { answer = a; present = false; start = size; length = 0 }
 abbrev pub present : (start end : ℕ) → Found
 present start end = record { answer = answer.accepted 0; present = true; start = start; length = end - start }
 
--- the element that was found, or none: in a data set of `size` bytes that is well-formed
+-- what is handed back for a well-formed data set of `size` bytes: by its element with the tag, or none
 unfoldable pub foundOf : (size : ℕ) → Option Element → Found
 foundOf size Opt.none = absent (answer.accepted 0) size
 foundOf size (some e) = present (spanOf e .start) (spanOf e .end)
@@ -44,8 +44,8 @@ foundIn size tag (read es next) = foundOf size (elementOf tag es)
 unfoldable pub found : List ℕ → (tag : ℕ) → Found
 found d tag = foundIn (length d) tag (dataSet d)
 
--- What lookup hands back: a part of the lent data set, not a copy, by its offset and its length, and the three answers. A place is a block of
--- memory and an offset in it: `lent` is where the data set starts, `place` where the part starts.
+-- What lookup hands back: a part of the lent data set, not a copy, by its offset and its length; beside it the number, the position and the
+-- yes or no. A place is a block of memory and an offset in it: `lent` is where the data set starts, `place` where the part starts.
 pub record Lookup (f : Found) (lent : ℕ × ℕ) (d : List ℕ) (place : ℕ × ℕ) (value : List ℕ) (number position : ℕ) (present : Bool) : Type 0 where
   pub block : place .0 ≡ lent .0
   pub offset : place .1 ≡ lent .1 + f .start
@@ -53,7 +53,3 @@ pub record Lookup (f : Found) (lent : ℕ × ℕ) (d : List ℕ) (place : ℕ ×
   pub numbered : number ≡ f .answer .number
   pub positioned : position ≡ f .answer .position
   pub stands : present ≡ f .present
-
--- ---- no part of what a reader must believe: what is found after one element more (`hit`: it has the tag), for an inner contract
-unfoldable pub orNext : Found → (hit : Bool) → Found → Found
-orNext f hit g = if f .present then f else if hit then g else f

@@ -1,11 +1,10 @@
--- Where the parts of a tree lie in the data set, and what stands there: the statement of what the reading guarantees (`InOrder` of
--- Theorems.antt). Assumes nothing.
+-- Where the parts of a tree lie in the data set, and what stands there: what the reading guarantees and what it accepts (`InOrder` and
+-- `FilledIsRead` of Theorems.antt). Assumes nothing.
 use Prim.Native.Nat.{ℕ, _+_, _-_, _%_, _≤_, _<_}
 use mathlib.Core.Path.{_≡_}
 use mathlib.Core.Logic.{_≢_}
 use mathlib.Core.Bool.{Bool, true, false}
 use mathlib.Core.List.{List, [], _∷_}
-use lib.ListN.{length}
 use Rattle.answer.specs.If.{if_then_else_}
 use Rattle.dataset.specs.Bytes.{num16, num32, tagAt, vrAt}
 use Rattle.dataset.specs.Vr.{OB, SQ, formOf}
@@ -19,7 +18,8 @@ pub record Tagged (d : List ℕ) (at tag : ℕ) : Type 0 where
   pub stands : tag ≡ tagAt d at
   pub group : num16 d at ≢ 0xFFFE
 
--- where the value starts after the header at `at`, and its length n as the header has it
+-- where the value starts after the header at `at`, and its length n as the header has it; in the long form the "two reserved zero
+-- bytes" too
 abbrev pub Sized : Form → List ℕ → (at start n : ℕ) → Type 0
 Sized Short d at start n = (start ≡ at + 8) × (num16 d (at + 6) ≡ n)
 Sized Long d at start n = (start ≡ at + 12) × (num16 d (at + 6) ≡ 0) × (num32 d (at + 8) ≡ n)
@@ -31,7 +31,6 @@ pub record ValueAt (d : List ℕ) (stop at tag vr start end : ℕ) : Type 0 wher
   pub letters : vr ≡ vrAt d at
   pub form : Sized (formOf vr) d at start (end - start)
   pub plain : vr ≢ SQ
-  pub header : at + 8 ≤ start
   pub order : start ≤ end
   pub inside : end ≤ stop
   pub even : (end - start) % 2 ≡ 0
@@ -46,9 +45,9 @@ pub record NestAt (d : List ℕ) (stop at tag vr start : ℕ) : Type 0 where
 
 -- The extent, up to `end`, of what starts at `start` and has the length n in its header: up to the end of the extent round it, where n is
 -- "FFFFFFFF (undefined)" and a delimiter closes it (`delimited`); else n bytes, "even" and "inside the extent".
-abbrev pub Extent : (n stop start end : ℕ) (delimited : Bool) → Type 0
-Extent n stop start end true = (n ≡ undefined) × (end ≡ stop)
-Extent n stop start end false = (n % 2 ≡ 0) × (end ≡ start + n) × (end ≤ stop)
+abbrev pub HeaderExtent : (n stop start end : ℕ) (delimited : Bool) → Type 0
+HeaderExtent n stop start end true = (n ≡ undefined) × (end ≡ stop)
+HeaderExtent n stop start end false = (n % 2 ≡ 0) × (end ≡ start + n) × (end ≤ stop)
 
 -- The end of elements, items or fragments at `at`, in an extent up to `stop`, and what follows it at `next`: a defined length is filled
 -- "exactly"; otherwise the delimiter "of length 0" stands there, in the extent.
@@ -57,73 +56,34 @@ EndsIn d delimiter true stop at next = (tagAt d at ≡ delimiter) × (num32 d (a
 EndsIn d delimiter false stop at next = (at ≡ stop) × (next ≡ at)
 
 -- fragments, each after the one before it, from `at` to what follows their delimiter at `next`, in an extent up to `stop`
-unfoldable pub PartsFill : List Span → List ℕ → (stop at next : ℕ) → Type 0
-PartsFill [] d stop at next = EndsIn d sequenceDelimiter true stop at next
-PartsFill (s ∷ ss) d stop at next =
-    (tagAt d at ≡ itemTag) × (s .start ≡ at + 8) × Extent (num32 d (at + 4)) stop (s .start) (s .end) false × PartsFill ss d stop (s .end) next
+unfoldable pub FragmentsFill : List Span → List ℕ → (stop at next : ℕ) → Type 0
+FragmentsFill [] d stop at next = EndsIn d sequenceDelimiter true stop at next
+FragmentsFill (s ∷ ss) d stop at next =
+    (tagAt d at ≡ itemTag) × (s .start ≡ at + 8) × HeaderExtent (num32 d (at + 4)) stop (s .start) (s .end) false × FragmentsFill ss d stop (s .end) next
 
--- An element, elements and items from `at` to what follows them at `next`, with `left` levels, in an extent up to `stop`, or before it at a
--- delimiter (`delimited`): each part starts where the one before it ends, an element's tag is at least `floor`, and the tags of one data set
--- ascend. What a sequence or an item holds fills the extent that its length gives; a closing delimiter, of 8 bytes, is no part of the value.
+-- An element, elements and items from `at` to what follows them at `next`, with `left` levels, in an extent up to `stop`, or before it at
+-- a delimiter (`delimited`): each part starts where the one before it ends, an element's tag is at least `least`, and the tags of one
+-- data set ascend. What a sequence or an item holds fills the extent that its length gives; a closing delimiter, of 8 bytes, is no part
+-- of the value.
 unfoldable mutual
   pub ElementFills : Element → List ℕ → (left stop at next : ℕ) → Type 0
   ElementFills (value p tag vr span) d left stop at next =
       (p ≡ at) × ValueAt d stop at tag vr (span .start) (span .end) × (next ≡ span .end)
   ElementFills (sequence p tag span items) d left stop at next =
       (delimited : Bool) × (end : ℕ) × (p ≡ at) × NestAt d stop at tag SQ (span .start) × (0 < left)
-      × Extent (num32 d (at + 8)) stop (span .start) end delimited × ItemsFill items d delimited left end (span .start) next
+      × HeaderExtent (num32 d (at + 8)) stop (span .start) end delimited × ItemsFill items d delimited left end (span .start) next
       × (span .end ≡ (if delimited then next - 8 else next))
   ElementFills (fragments p tag span parts) d left stop at next =
-      (p ≡ at) × NestAt d stop at tag OB (span .start) × (num32 d (at + 8) ≡ undefined) × PartsFill parts d stop (span .start) next
+      (p ≡ at) × NestAt d stop at tag OB (span .start) × (num32 d (at + 8) ≡ undefined) × FragmentsFill parts d stop (span .start) next
       × (span .end ≡ next - 8)
 
-  pub ElementsFill : Elements → List ℕ → (delimited : Bool) (left stop floor at next : ℕ) → Type 0
-  ElementsFill none d delimited left stop floor at next = EndsIn d itemDelimiter delimited stop at next
-  ElementsFill (and e rest) d delimited left stop floor at next =
-      (mid : ℕ) × (floor ≤ tagOf e) × ElementFills e d left stop at mid × ElementsFill rest d delimited left stop (tagOf e + 1) mid next
+  pub ElementsFill : Elements → List ℕ → (delimited : Bool) (left stop at least next : ℕ) → Type 0
+  ElementsFill none d delimited left stop at least next = EndsIn d itemDelimiter delimited stop at next
+  ElementsFill (and e rest) d delimited left stop at least next =
+      (mid : ℕ) × (least ≤ tagOf e) × ElementFills e d left stop at mid × ElementsFill rest d delimited left stop mid (tagOf e + 1) next
 
   pub ItemsFill : Items → List ℕ → (delimited : Bool) (left stop at next : ℕ) → Type 0
   ItemsFill last d delimited left stop at next = EndsIn d sequenceDelimiter delimited stop at next
   ItemsFill (item p elements rest) d delimited left stop at next =
-      (inner : Bool) × (end : ℕ) × (mid : ℕ) × (p ≡ at) × (tagAt d at ≡ itemTag) × Extent (num32 d (at + 4)) stop (at + 8) end inner
-      × ElementsFill elements d inner (left - 1) end 0 (at + 8) mid × ItemsFill rest d delimited left stop mid next
-
--- ---- no part of what a reader must believe: what follows of it without the extents, which later proofs build on
-
--- the end of a data set, of items or of fragments: nothing, or a delimiter
-pub record Ends (d : List ℕ) (at next : ℕ) : Type 0 where
-  pub order : at ≤ next
-  pub inside : next ≤ length d
-  pub even : (next - at) % 2 ≡ 0
-
--- a value without its closing delimiter lies before what follows it
-pub record Closes (span : Span) (next : ℕ) : Type 0 where
-  pub order : span .start ≤ span .end
-  pub inside : span .end ≤ next
-
--- fragments, each after the one before it, from `at` to what follows them at `next`
-unfoldable pub PartsLie : List Span → List ℕ → (at next : ℕ) → Type 0
-PartsLie [] d at next = Ends d at next
-PartsLie (s ∷ ss) d at next =
-    (tagAt d at ≡ itemTag) × (s .start ≡ at + 8) × (s .start ≤ s .end) × ((s .end - s .start) % 2 ≡ 0) × PartsLie ss d (s .end) next
-
--- An element, elements and items from `at` to what follows them at `next`, with `left` levels: each part starts where the one before it
--- ends, an element's tag is at least `floor`, and the tags of one data set ascend.
-unfoldable mutual
-  pub ElementLies : Element → List ℕ → (left at next : ℕ) → Type 0
-  ElementLies (value p tag vr span) d left at next =
-      (p ≡ at) × ValueAt d (length d) at tag vr (span .start) (span .end) × (next ≡ span .end)
-  ElementLies (sequence p tag span items) d left at next =
-      (p ≡ at) × NestAt d (length d) at tag SQ (span .start) × Closes span next × (0 < left) × ItemsLie items d left (span .start) next
-  ElementLies (fragments p tag span parts) d left at next =
-      (p ≡ at) × NestAt d (length d) at tag OB (span .start) × Closes span next × PartsLie parts d (span .start) next
-
-  pub ElementsLie : Elements → List ℕ → (left floor at next : ℕ) → Type 0
-  ElementsLie none d left floor at next = Ends d at next
-  ElementsLie (and e rest) d left floor at next =
-      (mid : ℕ) × (floor ≤ tagOf e) × ElementLies e d left at mid × ElementsLie rest d left (tagOf e + 1) mid next
-
-  pub ItemsLie : Items → List ℕ → (left at next : ℕ) → Type 0
-  ItemsLie last d left at next = Ends d at next
-  ItemsLie (item p elements rest) d left at next =
-      (mid : ℕ) × (p ≡ at) × (tagAt d at ≡ itemTag) × ElementsLie elements d (left - 1) 0 (at + 8) mid × ItemsLie rest d left mid next
+      (inner : Bool) × (end : ℕ) × (mid : ℕ) × (p ≡ at) × (tagAt d at ≡ itemTag) × HeaderExtent (num32 d (at + 4)) stop (at + 8) end inner
+      × ElementsFill elements d inner (left - 1) end (at + 8) 0 mid × ItemsFill rest d delimited left stop mid next

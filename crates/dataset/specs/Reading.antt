@@ -1,6 +1,6 @@
--- The reading of a data set: "The first fault from the left is given, at the offset where that element's, item's or delimiter's header starts"
--- (01, "Reading the data set"), or the tree of its elements. Assumes nothing.
-use Prim.Native.Nat.{ℕ, zero, suc, _+_, _-_, _≤_}
+-- The reading of a data set: "The first fault from the left is given, at the offset where that element's, item's or delimiter's header
+-- starts" (01, "Reading the data set"), or the tree of its elements. Assumes nothing.
+use Prim.Native.Nat.{ℕ, zero, suc, _+_, _-_}
 use mathlib.Core.Bool.{Bool, true, false}
 use mathlib.Core.List.{List, [], _∷_}
 use mathlib.Core.Path.{_≡_}
@@ -12,11 +12,9 @@ use Rattle.answer.specs.If.{if_then_else_}
 use Rattle.dataset.specs.Header.{elementAt, itemAt}
 use Rattle.dataset.specs.Tree.{Span, span, Element, value, sequence, fragments, Elements, none, and, Items, last, item, tagOf, vrOf, spanOf}
 use Rattle.dataset.specs.declared.header.ElementHeader.{ElementHeader}
-use Rattle.dataset.specs.declared.header.ElementHeader.the-variants as header
+use Rattle.dataset.specs.declared.header.ElementHeader.the-variants as elementHeader
 use Rattle.dataset.specs.declared.header.ItemHeader.{ItemHeader}
-use Rattle.dataset.specs.declared.header.ItemHeader.the-variants as place
-use Rattle.dataset.specs.declared.reading.Outcome.{Outcome}
-use Rattle.dataset.specs.declared.reading.Outcome.the-variants as outcome
+use Rattle.dataset.specs.declared.header.ItemHeader.the-variants as itemHeader
 use Rattle.dataset.specs.declared.reading.OneOutcome.{OneOutcome}
 use Rattle.dataset.specs.declared.reading.OneOutcome.the-variants as one
 
@@ -36,7 +34,8 @@ pub data One : Type 0 where
   ended : One
   element : Element → One
 
--- The checks at one header, in an element's place and in the place of an item or fragment. The reading is defined over them.
+-- The checks at one header, in an element's place and in the place of an item or fragment. The reading is defined over them; only
+-- `explicit`, below, is used (docs/DECISIONS.md, R13).
 pub record Headers : Type 0 where
   pub element : List ℕ → (delimited : Bool) (left stop at least : ℕ) → ElementHeader
   pub item : List ℕ → (inSequence delimited : Bool) (stop at : ℕ) → ItemHeader
@@ -49,17 +48,17 @@ explicit = record { element = elementAt; item = itemAt }
 abbrev pub refusal : (at number : ℕ) → Answer
 refusal at number = answer.refused number at
 
--- One element, by its header. Handed in are the refusal of each number here, and the readers of its items and of its fragments.
--- A closing delimiter, of 8 bytes, is no part of the value.
+-- One element, by its header. Handed in are the refusal, by its number, at this offset (`refuse`), and the readers of its items (`items`)
+-- and of its fragments (`parts`). A closing delimiter, of 8 bytes, is no part of the value.
 unfoldable pub byHeader : (refuse : (number : ℕ) → Answer) (items : (delimited : Bool) (stop start : ℕ) → Reading Items)
     (parts : (start : ℕ) → Reading (List Span)) (at : ℕ) → ElementHeader → Reading One
-byHeader refuse items parts at (header.Refused number) = fault (refuse number)
-byHeader refuse items parts at (header.End next) = read ended next
-byHeader refuse items parts at (header.Value tag vr start stop) = read (element (value at tag vr (span start stop))) stop
-byHeader refuse items parts at (header.Sequence tag start stop delimited) = do
+byHeader refuse items parts at (elementHeader.Refused number) = fault (refuse number)
+byHeader refuse items parts at (elementHeader.End next) = read ended next
+byHeader refuse items parts at (elementHeader.Value tag vr start stop) = read (element (value at tag vr (span start stop))) stop
+byHeader refuse items parts at (elementHeader.Sequence tag start stop delimited) = do
   (inside, next) ← items delimited stop start
   read (element (sequence at tag (span start (if delimited then next - 8 else next)) inside)) next
-byHeader refuse items parts at (header.Fragments tag start) = do
+byHeader refuse items parts at (elementHeader.Fragments tag start) = do
   (inside, next) ← parts start
   read (element (fragments at tag (span start (next - 8)) inside)) next
 
@@ -70,29 +69,31 @@ byOne elements (element e, next) = do
   (rest, after) ← elements next (tagOf e + 1)
   read (and e rest) after
 
--- Items are one item and the rest. Handed in are the refusal of each number here, and the readers of an item's elements and of the rest.
+-- Items are one item and the rest. Handed in are the refusal, by its number, at this offset, and the readers of an item's elements and of
+-- the rest.
 unfoldable pub byItem : (refuse : (number : ℕ) → Answer) (elements : (delimited : Bool) (stop start : ℕ) → Reading Elements)
     (items : (next : ℕ) → Reading Items) (at : ℕ) → ItemHeader → Reading Items
-byItem refuse elements items at (place.Refused number) = fault (refuse number)
-byItem refuse elements items at (place.End next) = read last next
-byItem refuse elements items at (place.Item start stop delimited) = do
+byItem refuse elements items at (itemHeader.Refused number) = fault (refuse number)
+byItem refuse elements items at (itemHeader.End next) = read last next
+byItem refuse elements items at (itemHeader.Item start stop delimited) = do
   (inside, next) ← elements delimited stop start
   (rest, after) ← items next
   read (item at inside rest) after
 
--- Fragments are one fragment and the rest: "Their bytes aren't looked into".
+-- Fragments are one fragment and the rest: "Their bytes aren't looked into". Handed in are the refusal, by its number, at this offset,
+-- and the reader of the rest.
 unfoldable pub byFragment : (refuse : (number : ℕ) → Answer) (parts : (next : ℕ) → Reading (List Span)) → ItemHeader → Reading (List Span)
-byFragment refuse parts (place.Refused number) = fault (refuse number)
-byFragment refuse parts (place.End next) = read [] next
-byFragment refuse parts (place.Item start stop delimited) = do
+byFragment refuse parts (itemHeader.Refused number) = fault (refuse number)
+byFragment refuse parts (itemHeader.End next) = read [] next
+byFragment refuse parts (itemHeader.Item start stop delimited) = do
   (rest, after) ← parts stop
   read (span start stop ∷ rest) after
 
 module _ (h : Headers) where
   -- The recursion counts down a number (fuel), one for each header on the way. Where it is used up the fault's number is 0, which
-  -- `elementsAt` and the others below never give (`FuelSuffices`, `FaultsInside` and `FaultsOfOne` of Theorems.antt).
-  -- `left` is 16 less the level: that of the data set that is read, or that of the sequence or OB. The reading of fragments does
-  -- not use it.
+  -- `elementsAt` and the others below never give in an extent inside the data (`FuelSuffices` and `FaultsIn` of Theorems.antt).
+  -- `left` is 16 less the level: of the data set that is read, or at which the sequence or the OB stands. Fragments have no levels below
+  -- them: there it only says at which level the OB stands, and nothing is read by it.
   unfoldable pub fragmentsBy : ℕ → List ℕ → (left stop at : ℕ) → Reading (List Span)
   fragmentsBy zero d left stop at = fault (refusal at 0)
   fragmentsBy (suc n) d left stop at = byFragment (refusal at) (fragmentsBy n d left stop) (h .item d false true stop at)
@@ -147,7 +148,7 @@ levels = 16
 unfoldable pub dataSet : List ℕ → Reading Elements
 dataSet d = if ltb sizeLimit (length d) then fault (answer.refused 1 0) else elementsAt explicit d false levels (length d) 0 0
 
--- the answer to the caller: the fault, or number 0
+-- the answer to the caller: the fault, or number 0, with length 0 (docs/DECISIONS.md, A3)
 abbrev pub answerOf : {A : Type 0} → Reading A → Answer
 answerOf (fault f) = f
 answerOf (read a next) = answer.accepted 0
@@ -160,32 +161,15 @@ treeOf (read es next) = es
 abbrev pub tree : List ℕ → Elements
 tree d = treeOf (dataSet d)
 
--- well-formed, a term of 01 ("The stream"): "A data set is well-formed when none of the conditions 1 to 8 holds for it."
+-- well-formed, a term of 01 ("The stream"): "A data set is well-formed when none of the conditions 1 to 8 holds for it.": a tree is read
 abbrev pub WellFormed : List ℕ → Type 0
-WellFormed d = answerOf (dataSet d) ≡ answer.accepted 0
+WellFormed d = (es : Elements) × (next : ℕ) × (dataSet d ≡ read es next)
 
 -- ---- what the reader of one element answers of a reading
 
--- the fault, the end, or an element with what the tree has of it beside its inside; OneOutcome, with its fields (src/reading.rt):
--- Refused answer | End next | Element tag vr start end next
+-- the fault, the end, or an element: its tag, its VR, where its value lies and the offset past it. OneOutcome, with its fields
+-- (src/reading.rt): Refused answer | End next | Element tag vr start end next
 abbrev pub oneOutcomeOf : Reading One → OneOutcome
 oneOutcomeOf (fault f) = one.Refused f
 oneOutcomeOf (read ended next) = one.End next
 oneOutcomeOf (read (element e) next) = one.Element (tagOf e) (vrOf e) (spanOf e .start) (spanOf e .end) next
-
--- ---- no part of what a reader must believe, for inner contracts
-
--- the fault, or the offset past what was read
-abbrev pub outcomeOf : {A : Type 0} → Reading A → Outcome
-outcomeOf (fault f) = outcome.Refused f
-outcomeOf (read a next) = outcome.Next next
-
--- what was read has room for a closing delimiter, of 8 bytes
-abbrev pub PastDelimiter : Outcome → Type 0
-PastDelimiter (outcome.Refused f) = Unit {0}
-PastDelimiter (outcome.Next next) = 8 ≤ next
-
--- an element that holds items or fragments, by what their reader answers
-unfoldable pub holdingOf : (tag vr start : ℕ) (delimited : Bool) → Outcome → OneOutcome
-holdingOf tag vr start delimited (outcome.Refused f) = one.Refused f
-holdingOf tag vr start delimited (outcome.Next next) = one.Element tag vr start (if delimited then next - 8 else next) next

@@ -4,7 +4,7 @@ use Prim.Native.Nat.{ℕ}
 use mathlib.Core.List.{List}
 use Rattle.dataset.specs.Vr.{OB, SQ}
 
--- a value's or a fragment's first offset, and the one past it
+-- the offset of the first byte of a value or fragment, and the offset past its last byte
 pub record Span : Type 0 where
   pub start : ℕ
   pub end : ℕ
@@ -12,8 +12,8 @@ pub record Span : Type 0 where
 abbrev pub span : (start end : ℕ) → Span
 span start end = record { start = start; end = end }
 
--- An element has the offset of its header, its tag, and where its value lies, without a closing delimiter; a `value` has its VR too. An item
--- has the offset of its header.
+-- An element has the offset of its header, its tag, and where its value lies, without a closing delimiter; a `value` has its VR too. An
+-- item has the offset of its header; `last` is no item more.
 mutual
   pub data Element : Type 0 where
     value : (at tag vr : ℕ) (span : Span) → Element

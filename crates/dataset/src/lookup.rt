@@ -5,7 +5,8 @@ use answer::Answer;
 ghost use mathlib.Core.Path.{_≡_};
 ghost use Prim.Native.Nat.{_≤_};
 ghost use lib.Dec.{eqb};
-ghost use Rattle.dataset.specs.Lookup.{absent, present, orNext, found, Lookup};
+ghost use Rattle.dataset.specs.Lookup.{absent, present, found, Lookup};
+ghost use Rattle.dataset.specs.Inner.Outcomes.{orNext};
 
 // The reading's answer, whether the tag stands there, and where its value lies.
 pub struct Found {

@@ -8,7 +8,8 @@ use answer::Answer;
 ghost use mathlib.Core.Path.{_≡_};
 ghost use Prim.Native.Nat.{_<_, _≤_};
 ghost use lib.ListN.{length};
-ghost use Rattle.dataset.specs.Reading.{explicit, elementsAt, itemsAt, fragmentsAt, oneAt, outcomeOf, oneOutcomeOf, PastDelimiter, holdingOf, answerOf, dataSet};
+ghost use Rattle.dataset.specs.Reading.{explicit, elementsAt, itemsAt, fragmentsAt, oneAt, oneOutcomeOf, answerOf, dataSet};
+ghost use Rattle.dataset.specs.Inner.Outcomes.{outcomeOf, PastDelimiter, holdingOf};
 
 // How many bytes a data set may have.
 pub const SIZE_LIMIT: usize = 1048576;

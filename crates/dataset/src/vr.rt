@@ -16,7 +16,6 @@ pub const UN: u16 = 0x554E;
 
 pub const US: u16 = 0x5553;
 
-// The form of a header.
 pub(crate) enum Form {
     // a two-byte length
     Short,
@@ -29,8 +28,8 @@ pub(crate) enum Form {
 const SHORT_FORM: [u16; 21] = [
     0x4145, // AE
     0x4153, // AS
-    0x4154, // AT
-    0x4353, // CS
+    AT,
+    CS,
     0x4441, // DA
     0x4453, // DS
     0x4454, // DT
@@ -45,9 +44,9 @@ const SHORT_FORM: [u16; 21] = [
     0x5353, // SS
     0x5354, // ST
     0x544D, // TM
-    0x5549, // UI
+    UI,
     0x554C, // UL
-    0x5553, // US
+    US,
 ];
 
 const LONG_FORM: [u16; 6] = [
@@ -59,7 +58,6 @@ const LONG_FORM: [u16; 6] = [
     UN,
 ];
 
-// Whether the VR is in the table.
 fn one_of(vr: u16, table: &[u16]) -> bool
     ensures { λ r. ⌜ r ≡ oneOf vr (now (table .entry)) ⌝ }
 {
@@ -73,7 +71,6 @@ fn one_of(vr: u16, table: &[u16]) -> bool
     false
 }
 
-// The form of a VR's header.
 pub(crate) fn form_of(vr: u16) -> Form
     ensures { λ r. ⌜ r ≡ formOf vr ⌝ }
 {

@@ -18,7 +18,7 @@ use Rattle.dataset.specs.Tree.{Span, span, Element, value, sequence, fragments,
 use Rattle.dataset.specs.Reading.{Reading, fault, read, _>>=_, One, ended, element, explicit, refusal, byHeader, itemsAt, fragmentsAt, oneAt}
 use Rattle.dataset.specs.declared.header.ElementHeader.{ElementHeader}
 use Rattle.dataset.specs.declared.header.ElementHeader.the-variants as header
-use Rattle.dataset.proofs.Bounds.{ElementFacts, element-facts}
+use Rattle.dataset.proofs.Bounds.{ElementFacts, value-start, element-facts}
 use Rattle.mac.specs.Stream.{streamOf, itemsStream, fragmentsStream}
 use Rattle.mac.specs.UN.{isUN, holdsUN, itemsHoldUN}
 use Rattle.mac.specs.Inner.Keep.{keeps, keepsHeader, every}
@@ -72,7 +72,7 @@ module _ (d : List ℕ) (left stop at : ℕ) (h : ElementHeader) where
 
     module _ (tag vr start end : ℕ) (q : h ≡ header.Value tag vr start end) where
       pub value-order : at ≤ end
-      value-order = let v = facts (header.Value tag vr start end) q .1 in omega (arith, v .header, v .order)
+      value-order = let v = facts (header.Value tag vr start end) q .1 in omega (arith, value-start d stop at tag vr start end v, v .order)
 
       pub value-inside : (n : ℕ) → stop ≤ n → end ≤ n
       value-inside n l = omega (arith, facts (header.Value tag vr start end) q .1 .inside)

@@ -7,7 +7,7 @@ use native.Mathlib.Omega.{arith}
 use lib.ListN.{length, length-append}
 use Rattle.answer.specs.If.{if_then_else_}
 use Rattle.dataset.specs.Tree.{Element, Elements, tagOf}
-use Rattle.dataset.specs.Order.{ElementsLie}
+use Rattle.dataset.proofs.Lies.{ElementsLie}
 use Rattle.mac.specs.TagList.{barred, unlessBarred}
 use Rattle.mac.specs.Content.{signedElements}
 use Rattle.mac.specs.Stream.{streamOf, elementsStream}

@@ -43,9 +43,6 @@ module _ (want : ℕ) (test : Option (List ℕ) → Bool) (d : List ℕ) (p : Pl
     test-value h w = record { says = λ o q. rw (value-at d p vr start end is want o q, eq-eqb vr want h) w }
 
 -- ---- the MAC ID Number
-pub is-us : (vr n : ℕ) → vr ≡ US → eqb n 2 ≡ (eqb vr US && eqb n 2)
-is-us vr n h = rw (eq-eqb vr US h)
-
 -- the bytes of the MAC ID Number in a place
 module _ (d : List ℕ) (p : Place) (vr start end : ℕ) (is : p ≡ place.Value vr start end) (lies : PlaceLies d p) (b : Bool) (e : b ≡ (eqb vr US && eqb (end - start) 2)) where
   pub two-bytes : (o : Option Element) → Placed d o p → twoBytes (valueOf US o d) ≡ (if b then some (between d start end) else Opt.none)

@@ -6,7 +6,8 @@ use native.Mathlib.Omega.{arith}
 use lib.ListN.{length, length-append, length-take}
 use Rattle.dataset.specs.Bytes.{between}
 use Rattle.dataset.specs.Tree.{Span, Element, value, sequence, fragments, Elements, none, and, Items, last, item, tagOf}
-use Rattle.dataset.specs.Order.{PartsLie, ElementLies, ElementsLie, ItemsLie}
+use Rattle.dataset.proofs.Bounds.{value-start}
+use Rattle.dataset.proofs.Lies.{FragmentsLie, ElementLies, ElementsLie, ItemsLie}
 use Rattle.mac.specs.TagList.{barred, unlessBarred}
 use Rattle.mac.specs.Stream.{itemTagBytes, fragmentsStream, streamOf, elementsStream, itemsStream}
 
@@ -21,8 +22,8 @@ kept-most : (b : Bool) (xs ys : List ℕ) (m n : ℕ) → length xs ≤ m → le
 kept-most true xs ys m n h k = omega arith
 kept-most false xs ys m n h k = two xs ys m n h k
 
-pub parts-length : (ss : List Span) (d : List ℕ) (at next : ℕ) → PartsLie ss d at next → (at ≤ next) × (length (fragmentsStream ss d) ≤ next - at + 4)
-unfolding PartsLie fragmentsStream
+pub parts-length : (ss : List Span) (d : List ℕ) (at next : ℕ) → FragmentsLie ss d at next → (at ≤ next) × (length (fragmentsStream ss d) ≤ next - at + 4)
+unfolding FragmentsLie fragmentsStream
 parts-length [] d at next r = (r .order, omega arith)
 parts-length (s ∷ ss) d at next r =
     let k = parts-length ss d (s .end) next (r .4) in
@@ -37,7 +38,8 @@ mutual
   element-length (value p tag vr s) d left at next r =
       let z = between-most d p (s .end) in
       let v = r .1 in
-      (omega (arith, v .header, v .order, r .2), omega (arith, v .header, v .order, r .0, r .2, z))
+      let h = value-start d (length d) at tag vr (s .start) (s .end) v in
+      (omega (arith, v .order, r .2), omega (arith, v .order, r .0, r .2, z))
   element-length (sequence p tag s is) d left at next r =
       let k = items-length is d left (s .start) next (r .4) in
       let z = two (between d p (p + 8)) (itemsStream is d) (p + 8 - p) (next - s .start + 4) (between-most d p (p + 8)) (k .1) in

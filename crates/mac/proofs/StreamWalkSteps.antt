@@ -15,7 +15,7 @@ use Rattle.answer.proofs.Chain.{or-else-first, or-else-second, both-accepted}
 use Rattle.dataset.specs.Tree.{Elements}
 use Rattle.dataset.specs.Reading.{Reading, fault, read, explicit, elementsAt, treeOf}
 use Rattle.dataset.proofs.Bounded.{explicit-bounded}
-use Rattle.dataset.proofs.Unfolding.{Within, elements-within}
+use Rattle.dataset.proofs.Within.{Within, elements-within}
 use Rattle.dataset.proofs.Guarantees.{holds-read, ElementsIn, elements-read}
 use Rattle.mac.specs.TagList.{tagsIn}
 use Rattle.mac.specs.Stream.{listedStream}

@@ -7,11 +7,11 @@ use mathlib.Core.List.{List, [], _∷_}
 use native.Mathlib.Omega.{arith}
 use lib.ListN.{length, drop, getD, length-drop}
 use lib.Dec.{ltb}
-use borrow.Author.Tests.{lt-ltb, le-ltb, eq-eqb, ne-eqb}
+use borrow.Author.Tests.{lt-ltb, le-ltb, le-leb, eq-eqb, ne-eqb}
 use Rattle.answer.specs.declared.Answer.{Answer}
 use Rattle.answer.specs.If.{if_then_else_}
 use Rattle.answer.specs.Answer.{accepted, refused, _orElse_}
-use Rattle.dataset.specs.Bytes.{num16, tagAt}
+use Rattle.dataset.specs.Bytes.{num16, tagAt, tagIn}
 use Rattle.mac.proofs.OutputSteps.{drop-one}
 use Rattle.mac.specs.TagList.{barred, tagsIn, badSize, ascendingAnswer, unbarredAnswer, listAnswer}
 
@@ -40,6 +40,10 @@ none-in (a ∷ b ∷ c ∷ d ∷ l) h = absurd (omega arith)
 
 pub tags-none : (l : List ℕ) (index : ℕ) → length l / 4 ≤ index → tagsIn (drop (4 * index) l) ≡ []
 tags-none l index h = none-in (drop (4 * index) l) (simp length-drop (omega arith))
+
+pub tag-there : (l : List ℕ) (i tag : ℕ) → i + 4 ≤ length l → tag ≡ tagIn l i → tag ≡ tagAt l i
+unfolding tagIn if_then_else_
+tag-there l i tag h e = e ∙ rw (le-leb (i + 4) (length l) h)
 
 pub tag-inside : (l : List ℕ) (index count : ℕ) → count ≡ length l / 4 → index < count → 4 * index + 4 ≤ length l
 tag-inside l index count e h = omega arith

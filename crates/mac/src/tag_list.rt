@@ -1,32 +1,18 @@
 // The tag list: its size, its order, and the barred tags.
 use answer::Answer;
+use dataset::bytes;
 ghost use mathlib.Core.Path.{_≡_};
 ghost use Prim.Native.Nat.{_+_, _*_, _<_, _≤_};
 ghost use lib.ListN.{length};
-ghost use Rattle.dataset.specs.Bytes.{num16, tagAt};
+ghost use Rattle.dataset.specs.Bytes.{tagAt};
 ghost use Rattle.mac.specs.TagList.{barred, tagsIn, badSize, ascendingAnswer, unbarredAnswer, listAnswer};
-
-// As dataset::bytes has it: those functions require their place inside the data, so they are not public.
-fn wide(b: u8) -> u32
-    ensures { λ r. ⌜ (r ≡ b) × (r < 256) ⌝ }
-{
-    b as u32
-}
-
-fn number16(list: &[u8], i: usize) -> u32
-    requires { ⌜ i + 2 ≤ length (now list) ⌝ }
-    ensures { λ r. ⌜ (r ≡ num16 (now (list .entry)) i) × (r < 65536) ⌝ }
-{
-    wide(list[i]) + 256 * wide(list[i + 1])
-}
 
 // The tag at an index of the list.
 pub(crate) fn tag_at(list: &[u8], index: usize) -> u32
     requires { ⌜ 4 * index + 4 ≤ length (now list) ⌝ }
     ensures { λ r. ⌜ r ≡ tagAt (now (list .entry)) (4 * index) ⌝ }
 {
-    let at = 4 * index;
-    number16(list, at) * 65536 + number16(list, at + 2)
+    bytes::tag_in(list, 4 * index)
 }
 
 // Whether a tag is barred.

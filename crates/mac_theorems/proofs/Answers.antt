@@ -18,7 +18,7 @@ use Rattle.dataset.specs.Tree.{Element, Elements}
 use Rattle.dataset.specs.Reading.{Reading, fault, read, explicit, elementsAt, sizeLimit, levels, dataSet, answerOf, tree}
 use Rattle.dataset.specs.Lookup.{elementOf}
 use Rattle.dataset.proofs.Bounded.{explicit-bounded}
-use Rattle.dataset.proofs.Unfolding.{Within, elements-within}
+use Rattle.dataset.proofs.Within.{Within, elements-within}
 use Rattle.dataset.proofs.Steps.{data-set-is, data-set-over}
 use Rattle.mac.specs.TagList.{tagsIn, barred, ascendingAnswer, unbarredAnswer, badSize, listAnswer}
 use Rattle.mac.specs.UN.{isUN, holdsUN, contentWritesUN}

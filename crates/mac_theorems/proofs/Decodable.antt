@@ -7,7 +7,8 @@ use native.Mathlib.Omega.{arith}
 use lib.ListN.{length}
 use Rattle.dataset.specs.Bytes.{tagAt, between}
 use Rattle.dataset.specs.Tree.{Element, Elements, Items, tagOf}
-use Rattle.dataset.specs.Order.{Tagged, ElementLies, ElementsLie, ItemsLie}
+use Rattle.dataset.specs.Order.{Tagged}
+use Rattle.dataset.proofs.Lies.{ElementLies, ElementsLie, ItemsLie}
 use Rattle.dataset.specs.Reading.{sizeLimit}
 use Rattle.mac.specs.TagList.{barred, unlessBarred}
 use Rattle.mac.specs.Content.{SignedElement, SignedElements, signed, signedElements, signedItems, inFragments, someInFragments, itemsInFragments}

@@ -9,7 +9,8 @@ use Rattle.dataset.specs.Bytes.{num16, num32, tagAt, vrAt, between}
 use Rattle.answer.specs.If.{if_then_else_}
 use Rattle.dataset.specs.Vr.{SQ, OB, shortForm, longForm, oneOf, formOf}
 use Rattle.dataset.specs.Tree.{Span, Element, Elements, Items, tagOf}
-use Rattle.dataset.specs.Order.{Sized, ElementLies, ElementsLie, ItemsLie}
+use Rattle.dataset.specs.Order.{Sized}
+use Rattle.dataset.proofs.Lies.{ElementLies, ElementsLie, ItemsLie}
 use Rattle.mac.specs.TagList.{barred, unlessBarred}
 use Rattle.mac.specs.Content.{SignedElement, SignedElements, SignedItems, fragmentBytes, signed, signedElements, signedItems}
 use Rattle.mac.specs.Stream.{itemTagBytes, sequenceDelimiterBytes, fragmentsStream, streamOf, elementsStream, itemsStream}

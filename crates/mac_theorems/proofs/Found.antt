@@ -9,7 +9,7 @@ use lib.Dec.{eqb}
 use borrow.Author.Tests.{eqb-true, ne-eqb}
 use Rattle.answer.specs.If.{if_then_else_}
 use Rattle.dataset.specs.Tree.{Element, Elements, tagOf}
-use Rattle.dataset.specs.Order.{ElementLies, ElementsLie}
+use Rattle.dataset.proofs.Lies.{ElementLies, ElementsLie}
 use Rattle.dataset.specs.Lookup.{elementOf}
 use Rattle.dataset.proofs.Order.{element-ends}
 

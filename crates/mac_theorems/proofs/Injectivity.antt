@@ -16,6 +16,7 @@ use Rattle.answer.specs.Answer.{_orElse_}
 use Rattle.dataset.proofs.Guarantees.{DataSetIs, data-set-read}
 use Rattle.digest.specs.Message.{digestOf}
 use Rattle.digest.specs.Sha256.{sha256}
+use Rattle.dataset.proofs.Theorems.{well-formed-accepted, accepted-well-formed}
 use Rattle.dataset.specs.Reading.{answerOf, tree}
 use Rattle.mac.specs.TagList.{tagsIn, listAnswer}
 use Rattle.mac.specs.Content.{SignedElements}
@@ -121,10 +122,10 @@ second-half c d b b′ g g′ same = record { answers = answers; verdict = same-
     k = on c d
 
     r : IsRead (c .set)
-    r = is-read (c .set) (ap (λ (x : Answer). x .number) (g .wellFormed))
+    r = is-read (c .set) (ap (λ (x : Answer). x .number) (well-formed-accepted (c .set) (g .wellFormed)))
 
     r′ : IsRead d
-    r′ = is-read d (ap (λ (x : Answer). x .number) (g′ .wellFormed))
+    r′ = is-read d (ap (λ (x : Answer). x .number) (well-formed-accepted d (g′ .wellFormed)))
 
     s : Row (contentOf c)
     s = row-of (contentOf c) (g .holds)
@@ -195,7 +196,7 @@ accepted-signs c h =
     let a = accepts c (eqb-true (answer c .number) 0 h) in
     let r = has-content (tagsIn (c .list)) 0 (tree (c .set)) (c .set) (a .from13 .found) in
     record {
-      wellFormed = ap answerOf (a .read .is);
+      wellFormed = accepted-well-formed (c .set) (ap answerOf (a .read .is));
       holds = λ e. let z : _≡_ {A = ℕ} 0 1 = cc (r .is, e) in omega arith;
       known = none-hold (tagsIn (c .list)) 0 (tree (c .set)) (a .from13 .found);
     }

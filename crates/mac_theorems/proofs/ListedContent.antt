@@ -7,7 +7,7 @@ use mathlib.Core.Option.{Option, some}
 use mathlib.Core.Option as Opt
 use Rattle.answer.specs.Answer.{_orElse_}
 use Rattle.dataset.specs.Tree.{Element, Elements}
-use Rattle.dataset.specs.Order.{ElementsLie}
+use Rattle.dataset.proofs.Lies.{ElementsLie}
 use Rattle.dataset.specs.Lookup.{elementOf}
 use Rattle.mac.specs.Content.{SignedElements, signed, joined, content, inFragments, someInFragments}
 use Rattle.mac.specs.Stream.{foundStream, listedStream}

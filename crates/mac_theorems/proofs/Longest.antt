@@ -14,7 +14,7 @@ use Rattle.answer.specs.Answer.{refused}
 use Rattle.answer.proofs.Chain.{BothAccepted, both-accepted}
 use Rattle.dataset.specs.Vr.{AT, CS, UI}
 use Rattle.dataset.specs.Tree.{Element, Elements, Items}
-use Rattle.dataset.specs.Order.{ElementsLie}
+use Rattle.dataset.proofs.Lies.{ElementsLie}
 use Rattle.dataset.specs.Reading.{Reading, levels, dataSet, treeOf, tree}
 use Rattle.dataset.specs.Lookup.{elementOf}
 use Rattle.dataset.proofs.Guarantees.{data-set-read}

@@ -12,7 +12,7 @@ use borrow.Author.Tests.{ltb-false}
 use Rattle.answer.specs.If.{if_then_else_}
 use Rattle.answer.specs.Answer.{refused}
 use Rattle.dataset.specs.Tree.{Element, Elements}
-use Rattle.dataset.specs.Order.{ElementsLie}
+use Rattle.dataset.proofs.Lies.{ElementsLie}
 use Rattle.dataset.specs.Lookup.{elementOf}
 use Rattle.dataset.proofs.Order.{elements-end}
 use Rattle.mac.specs.TagList.{ascendingAnswer}

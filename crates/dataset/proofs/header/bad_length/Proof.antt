@@ -1,7 +1,6 @@
 -- `bad_length` meets its contract: at each `return` the tests that led there say which case of `badLength` holds. Assumes nothing.
 use Rattle.dataset.proofs.Checks as checks
 use Rattle.dataset.specs.Header.{badLength}
-use borrow.Author.Needs.{needs}
 use Rattle.dataset.proofs.header.bad_length.Statement.{statement}
 use Rattle.dataset.proofs.header.bad_length.Tie as tie
 

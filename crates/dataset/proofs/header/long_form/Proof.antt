@@ -1,4 +1,4 @@
--- `long_form` meets its contract: the same for `longAt`. Assumes nothing.
+-- `long_form` meets its contract: at each `return` the tests that led there say which case of `longAt` holds. Assumes nothing.
 use Rattle.dataset.proofs.Checks as checks
 use Rattle.dataset.specs.Header.{longAt}
 use borrow.Author.Needs.{needs}

@@ -1,7 +1,6 @@
 -- `too_deep` meets its contract: at each `return` the tests that led there say which case of `tooDeep` holds. Assumes nothing.
 use Rattle.dataset.proofs.Checks as checks
 use Rattle.dataset.specs.Header.{tooDeep}
-use borrow.Author.Needs.{needs}
 use Rattle.dataset.proofs.header.too_deep.Statement.{statement}
 use Rattle.dataset.proofs.header.too_deep.Tie as tie
 

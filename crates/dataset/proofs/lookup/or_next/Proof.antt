@@ -1,6 +1,6 @@
 -- `or_next` meets its contract: by cases. Assumes nothing.
 use Rattle.dataset.proofs.Checks as checks
-use Rattle.dataset.specs.Lookup.{orNext}
+use Rattle.dataset.specs.Inner.Outcomes.{orNext}
 use borrow.Author.Needs.{needs}
 use Rattle.dataset.proofs.lookup.or_next.Statement.{statement}
 use Rattle.dataset.proofs.lookup.or_next.Tie as tie

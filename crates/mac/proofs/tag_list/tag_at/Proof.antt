@@ -1,40 +1,19 @@
--- `tag_at` meets its contract. Assumes nothing.
-use native.Mathlib.Omega.{arith}
-use Rattle.dataset.specs.Bytes.{tagAt}
+-- `tag_at` meets its contract: the tag stands in the list. Assumes nothing.
+use Rattle.answer.specs.If.{if_then_else_}
+use Rattle.dataset.specs.Bytes.{tagIn}
+use Rattle.mac.proofs.TagListSteps as steps
 use borrow.Author.Needs.{needs}
 use Rattle.mac.proofs.tag_list.tag_at.Statement.{statement}
 use Rattle.mac.proofs.tag_list.tag_at.Tie as tie
 
-mul-at : tie.Need-mul-at
-mul-at c = search needs
+mul-tag-in : tie.Need-mul-tag-in
+mul-tag-in c = search needs
 
-number16-requires : tie.Need-number16-requires
-number16-requires c κs = search needs
-
-mul-result : tie.Need-mul-result
-mul-result c = search needs
-
-add-number16 : tie.Need-add-number16
-add-number16 c = search needs
-
-number16-requires-2 : tie.Need-number16-requires-2
-number16-requires-2 c κs = search needs
-
-add-result : tie.Need-add-result
-add-result c = search needs
+tag-in-requires : tie.Need-tag-in-requires
+tag-in-requires c κs = search needs
 
 returns : tie.Need-returns
-unfolding tagAt
-returns c = omega arith
+returns c = search steps.tag-there
 
 pub tag-at-spec : {M : Type 1} → statement M
-tag-at-spec =
-    tie.close
-    (tie.spec
-    mul-at
-    number16-requires
-    mul-result
-    add-number16
-    number16-requires-2
-    add-result
-    returns)
+tag-at-spec = tie.close (tie.spec mul-tag-in tag-in-requires returns)
