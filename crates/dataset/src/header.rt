@@ -96,10 +96,7 @@ fn bad_length(vr: u16, len: usize) -> bool
     ensures { λ r. ⌜ r ≡ badLength vr len ⌝ }
 {
     if len == UNDEFINED {
-        if vr == vr::SQ {
-            return false;
-        }
-        return vr != vr::OB;
+        return !((vr == vr::SQ) | (vr == vr::OB));
     }
     len % 2 == 1
 }
@@ -108,10 +105,7 @@ fn bad_length(vr: u16, len: usize) -> bool
 fn too_deep(vr: u16, left: u32) -> bool
     ensures { λ r. ⌜ r ≡ tooDeep vr left ⌝ }
 {
-    if vr == vr::SQ {
-        return left == 0;
-    }
-    false
+    (vr == vr::SQ) & (left == 0)
 }
 
 // The checks of a length and a value that starts at `start`: 7, 8 and the last 2.
@@ -138,10 +132,7 @@ fn value_by(tag: u32, vr: u16, left: u32, stop: usize, start: usize, len: usize)
 fn ends_at(delimited: bool, stop: usize, at: usize) -> bool
     ensures { λ r. ⌜ r ≡ endsAt delimited stop at ⌝ }
 {
-    if delimited {
-        return false;
-    }
-    at == stop
+    !delimited & (at == stop)
 }
 
 // Whether the delimiter stands at `at`, with length 0, in an extent that it closes.
@@ -152,10 +143,7 @@ fn closed_by(d: &[u8], delimiter: u32, delimited: bool, at: usize) -> bool
     if !delimited {
         return false;
     }
-    if bytes::tag_at(d, at) != delimiter {
-        return false;
-    }
-    bytes::number32(d, at + 4) == 0
+    (bytes::tag_at(d, at) == delimiter) & (bytes::number32(d, at + 4) == 0)
 }
 
 // The checks at an element of the long form, from its second test of the bytes left on.

@@ -33,10 +33,6 @@ element-unrefused i (some e) h = go (isUN e) refl (holdsUN e) refl h
     go false p true q z = absurd (omega arith)
     go false p false q z = record { element = e; is = refl; known = p; clean = q }
 
-pub unrefused-element : (i : ℕ) (o : Option Element) → Unrefused o → elementAnswer i o .number ≡ 0
-unfolding elementAnswer if_then_else_
-unrefused-element i o g = rw (g .is, g .known, g .clean)
-
 -- the first listed tag, and the others
 pub record TagsUnrefused (i tag : ℕ) (tags : List ℕ) (es : Elements) : Type 0 where
   pub first : Unrefused (elementOf tag es)

@@ -1,4 +1,4 @@
--- `bad_length` meets its contract: at each `return` the tests that led there say which case of `badLength` holds. Assumes nothing.
+-- `bad_length` meets its contract: at each `return` the test that led there says which case of `badLength` holds. Assumes nothing.
 use Rattle.dataset.proofs.Checks as checks
 use Rattle.dataset.specs.Header.{badLength}
 use Rattle.dataset.proofs.header.bad_length.Statement.{statement}
@@ -12,9 +12,5 @@ returns-2 : tie.Need-returns-2
 unfolding badLength
 returns-2 c = search (checks.checks, checks.results)
 
-returns-3 : tie.Need-returns-3
-unfolding badLength
-returns-3 c = search (checks.checks, checks.results)
-
 pub bad-length-spec : {M : Type 1} → statement M
-bad-length-spec = tie.close (tie.spec returns returns-2 returns-3)
+bad-length-spec = tie.close (tie.spec returns returns-2)
