@@ -17,7 +17,7 @@ use Rattle.mac.specs.TagList.{tagsIn, listAnswer}
 use Rattle.mac.specs.UN.{contentWritesUN}
 use Rattle.mac.specs.Modes.{answerFrom13}
 use Rattle.mac.specs.ListMode.{Call, contentOf, stream, answer}
-use Rattle.mac_theorems.specs.Injectivity.{Accepted}
+use Rattle.mac_theorems.specs.Demand3.{Accepted}
 use Rattle.mac.proofs.ListedElements.{never-met}
 use Rattle.mac.proofs.From13Answers.{TailAccepts, tail-accepts, tail-accepted}
 

@@ -7,7 +7,7 @@ use native.Mathlib.Numerals.{add-one}
 use lib.ListN.{length, getD}
 use lib.Seq.{drop-cons}
 use Rattle.dataset.specs.Bytes.{num16, num32, tagAt, vrAt, between}
-use Rattle.mac_theorems.specs.Injectivity.{Bytes}
+use Rattle.mac_theorems.specs.Demand3.{Bytes}
 
 -- the two and the four bytes of a number, low byte first
 abbrev pub bytes16 : ℕ → List ℕ

@@ -11,7 +11,7 @@ use Rattle.dataset.specs.Order.{Tagged, ElementLies, ElementsLie, ItemsLie}
 use Rattle.dataset.specs.Reading.{sizeLimit}
 use Rattle.mac.specs.TagList.{barred, unlessBarred}
 use Rattle.mac.specs.Content.{SignedElement, SignedElements, signed, signedElements, signedItems, inFragments, someInFragments, itemsInFragments}
-use Rattle.mac_theorems.specs.Injectivity.{Bytes}
+use Rattle.mac_theorems.specs.Demand3.{Bytes}
 use Rattle.mac.proofs.Either.{first-false, second-false}
 use Rattle.mac.proofs.Slices.{length-between}
 use Rattle.mac_theorems.proofs.ByteSlices.{small16, small-vr}

@@ -13,7 +13,7 @@ use Rattle.dataset.specs.Order.{Sized, ElementLies, ElementsLie, ItemsLie}
 use Rattle.mac.specs.TagList.{barred, unlessBarred}
 use Rattle.mac.specs.Content.{SignedElement, SignedElements, SignedItems, fragmentBytes, signed, signedElements, signedItems}
 use Rattle.mac.specs.Stream.{itemTagBytes, sequenceDelimiterBytes, fragmentsStream, streamOf, elementsStream, itemsStream}
-use Rattle.mac_theorems.specs.Injectivity.{Bytes}
+use Rattle.mac_theorems.specs.Demand3.{Bytes}
 use Rattle.mac.proofs.Slices.{length-between}
 use Rattle.mac_theorems.proofs.ByteSlices.{bytes16, bytes32, tagBytes, vrBytes, between-none, header-front, long-front}
 

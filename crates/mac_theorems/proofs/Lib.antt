@@ -12,7 +12,7 @@ pub mod Answers
 pub mod SignatureAcceptance
 pub mod SignatureStream
 pub mod Verdicts
-pub mod Injectivity
+pub mod Demand3
 pub mod Theorems
 pub mod Examples
 pub mod SignatureExamples

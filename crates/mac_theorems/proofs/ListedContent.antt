@@ -13,7 +13,7 @@ use Rattle.mac.specs.Content.{SignedElements, signed, joined, content, inFragme
 use Rattle.mac.specs.Stream.{foundStream, listedStream}
 use Rattle.mac.specs.UN.{holdsUN}
 use Rattle.mac.specs.Modes.{elementAnswer, tagsAnswer}
-use Rattle.mac_theorems.specs.Injectivity.{foundHoldsUN, listedHoldUN}
+use Rattle.mac_theorems.specs.Demand3.{foundHoldsUN, listedHoldUN}
 use Rattle.mac.proofs.Either.{first-false, second-false}
 use Rattle.mac_theorems.proofs.Encoding.{encodeElements, element-encoded}
 use Rattle.mac_theorems.proofs.Decoding.{ElementsDecodable}

@@ -1,4 +1,4 @@
--- Demand 3, as specs/Injectivity.antt states it. Assumes nothing.
+-- Demand 3, as specs/Demand3.antt states it. Assumes nothing.
 use Prim.Native.Nat.{ℕ}
 use mathlib.Core.Path.{_≡_, refl, sym, ap, ap₂, _∙_}
 use mathlib.Core.Logic.{_≢_}
@@ -25,7 +25,7 @@ use Rattle.mac.specs.Result.{compared, isAccepted, verdictOf}
 use Rattle.mac.specs.ListMode.{Call, contentOf, stream, answer, streamCall, result}
 use Rattle.mac.specs.declared.verdict.Checked.{Checked}
 use Rattle.mac.specs.declared.verdict.Verdict.the-variants as verdict
-use Rattle.mac_theorems.specs.Injectivity.{Bytes, Accepted, signedInFragments, on, FirstHalf, SecondHalf, Run, written, FirstHalfOfCalls, SecondHalfOfCalls, StreamRuns, CheckRuns, listedHoldUN, SameResult, AcceptedSigns, Demand3}
+use Rattle.mac_theorems.specs.Demand3.{Bytes, Accepted, signedInFragments, on, FirstHalf, SecondHalf, Run, written, FirstHalfOfCalls, SecondHalfOfCalls, StreamRuns, CheckRuns, listedHoldUN, SameResult, AcceptedHasContent, Demand3}
 use Rattle.mac_theorems.proofs.Encoding.{encodeElements}
 use Rattle.mac_theorems.proofs.Decoding.{ElementsDecodable, injective}
 use Rattle.mac_theorems.proofs.Decodable.{WithinSize}
@@ -189,9 +189,9 @@ second-half-of-calls c s out out′ after after′ r r′ u u′ b b′ g g′ s
         let n = eqb-false (r .answer .number) 0 e in
         nothing (on c s) r′ out′ after′ u′ (λ z. n (ap (λ (x : Answer). x .number) (sym q) ∙ z)) ∙ sym (nothing c r out after u n)
 
-accepted-signs : AcceptedSigns
+accepted-has-content : AcceptedHasContent
 unfolding contentOf
-accepted-signs c h =
+accepted-has-content c h =
     let a = accepts c (eqb-true (answer c .number) 0 h) in
     let r = has-content (tagsIn (c .list)) 0 (tree (c .set)) (c .set) (a .from13 .found) in
     record {
@@ -209,5 +209,5 @@ demand-3 =
       check-runs = checked-run;
       first-half-of-calls = first-half-of-calls;
       second-half-of-calls = second-half-of-calls;
-      accepted-signs = accepted-signs;
+      accepted-has-content = accepted-has-content;
     }
