@@ -1,4 +1,5 @@
--- The stream of signature mode starts with list mode's for the list that is selected, and its answers from 10 on are list mode's. Assumes nothing.
+-- The stream of signature mode starts with list mode's for the list that is selected, and its answers from 10 on are list mode's. Assumes
+-- nothing.
 use Prim.Native.Nat.{ℕ, _≤_}
 use mathlib.Core.Path.{_≡_, refl, sym, ap, _∙_}
 use mathlib.Core.Bool.{Bool, true, false, true≢false}

@@ -47,7 +47,8 @@ listedHoldUN (tag ∷ tags) es = foundHoldsUN (elementOf tag es) || listedHoldUN
 abbrev pub on : Call → List ℕ → Call
 on c s = record { list = c .list; set = s; room = c .room; expected = c .expected }
 
--- First half, of two accepted calls, whatever their data sets and lists, with nothing signed in fragments in either (docs/DECISIONS.md, L13).
+-- First half, of two accepted calls, whatever their data sets and lists, with nothing signed in fragments in either (docs/DECISIONS.md,
+-- L13).
 abbrev pub FirstHalf : Type 0
 FirstHalf =
     (c k : Call) → Bytes (c .set) → Bytes (k .set) → Accepted c → Accepted k
@@ -66,15 +67,15 @@ pub record HasSignedContent (c : Call) : Type 0 where
   pub holds : contentOf c ≢ Opt.none
   pub known : listedHoldUN (tagsIn (c .list)) (tree (c .set)) ≡ false
 
--- Second half, of a call, refused or not, fragments or not, that has a signed content: the same call on another data set with the same signed
--- content has the same result (docs/DECISIONS.md, L12).
+-- Second half, of a call, refused or not, fragments or not, that has a signed content: the same call on another data set with the same
+-- signed content has the same result (docs/DECISIONS.md, L12).
 abbrev pub SecondHalf : Type 0
 SecondHalf =
     (c : Call) (s : List ℕ) → Bytes (c .set) → Bytes s → HasSignedContent c → HasSignedContent (on c s)
     → contentOf (on c s) ≡ contentOf c → SameResult c (on c s)
 
--- The same of the calls themselves, by what they give back: r is the answer and the verdict of a call (a call for the stream says neither), and `after`
--- what it leaves in its output or work buffer `out`.
+-- The same of the calls themselves, by what they give back: r is the answer and the verdict of a call (a call for the stream says neither),
+-- and `after` what it leaves in its output or work buffer `out`.
 pub record Run (c : Call) (out : List ℕ) (r : Checked) (after : List ℕ) : Type 0 where
   pub room : c .room ≡ length out
   pub answers : r .answer ≡ answer c
@@ -116,8 +117,8 @@ CheckRuns =
     (list set expected work after : List ℕ) (r : Checked) → CheckedAs (result (checkCall list set expected work)) work r after
     → Run (checkCall list set expected work) work r after
 
--- The data set of an accepted call is well-formed, holds every listed tag and has no UN inside a listed sequence: the second half speaks of every
--- accepted call.
+-- The data set of an accepted call is well-formed, holds every listed tag and has no UN inside a listed sequence: the second half speaks of
+-- every accepted call.
 abbrev pub AcceptedHasContent : Type 0
 AcceptedHasContent = (c : Call) → Accepted c → HasSignedContent c
 
