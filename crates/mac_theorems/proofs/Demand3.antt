@@ -192,8 +192,8 @@ second-half-of-calls c s out out′ after after′ r r′ u u′ b b′ g g′ s
 accepted-has-content : AcceptedHasContent
 unfolding contentOf
 accepted-has-content c h =
-    let a = accepts c (eqb-true (answer c .number) 0 h) in
-    let r = has-content (tagsIn (c .list)) 0 (tree (c .set)) (c .set) (a .from13 .found) in
+    let a = accepts c (number-0 c h) in
+    let r = call-has-content c a in
     record {
       wellFormed = ap answerOf (a .read .is);
       holds = λ e. let z : _≡_ {A = ℕ} 0 1 = cc (r .is, e) in omega arith;
