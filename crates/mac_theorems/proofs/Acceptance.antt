@@ -1,4 +1,4 @@
--- An accepted call: none of the refusals holds, and the answer is the stream's length. Assumes nothing.
+-- An accepted call in list mode: its data set is read, none of the refusals holds, and the answer is the stream's length. Assumes nothing.
 use Prim.Native.Nat.{ℕ}
 use mathlib.Core.Path.{_≡_, refl, sym, ap, _∙_}
 use mathlib.Core.List.{List}

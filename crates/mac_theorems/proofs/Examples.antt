@@ -1,4 +1,4 @@
--- The starred examples, all at once, and their signed contents: both sides are computed. Assumes nothing.
+-- The starred examples, all at once, and the signed contents of 5, 6 and 9: both sides are computed. Assumes nothing.
 use mathlib.Core.Path.{refl}
 use mathlib.Core.Bool.{true≢false}
 use Rattle.answer.specs.If.{if_then_else_}

@@ -1,4 +1,5 @@
--- A list with one tag more, in its place: its tags ascend, and its stream is longer by that tag's element. Assumes nothing.
+-- A list with one tag more, in its place: where that tag is barred the tags still ascend; the stream is longer by that tag's element.
+-- Assumes nothing.
 use Prim.Native.Nat.{ℕ, _+_, _≤_}
 use mathlib.Core.Path.{_≡_, refl, sym, ap, _∙_}
 use mathlib.Core.Bool.{Bool, true, false, true≢false}

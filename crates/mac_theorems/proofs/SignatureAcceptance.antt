@@ -1,4 +1,5 @@
--- The answers of signature mode: what every answer is, and what an accepted call leaves. Assumes nothing.
+-- Signature mode: what every answer is; of an accepted call none of the refusals holds, and the answer is the stream's length. Assumes
+-- nothing.
 use Prim.Native.Nat.{ℕ, _≤_}
 use mathlib.Core.Path.{_≡_, refl, ap, _∙_}
 use mathlib.Core.Bool.{true}
