@@ -5,7 +5,7 @@ use lib.ListN.{length, getD, take, drop}
 use lib.Dec.{leb}
 use Rattle.answer.specs.If.{if_then_else_}
 
--- a list of bytes
+-- a list of bytes: a slice of the code's bytes is one; the definitions speak of numbers
 abbrev pub OfBytes : List ℕ → Type 0
 OfBytes d = (i : ℕ) → getD d i 0 < 256
 

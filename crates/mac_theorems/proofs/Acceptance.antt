@@ -1,4 +1,4 @@
--- An accepted call: none of the refusals holds, and the answer is the stream's length. Assumes nothing.
+-- An accepted call in list mode: its data set is read, none of the refusals holds, and the answer is the stream's length. Assumes nothing.
 use Prim.Native.Nat.{ℕ}
 use mathlib.Core.Path.{_≡_, refl, sym, ap, _∙_}
 use mathlib.Core.List.{List}
@@ -17,7 +17,7 @@ use Rattle.mac.specs.TagList.{tagsIn, listAnswer}
 use Rattle.mac.specs.UN.{contentWritesUN}
 use Rattle.mac.specs.Modes.{answerFrom13}
 use Rattle.mac.specs.ListMode.{Call, contentOf, stream, answer}
-use Rattle.mac_theorems.specs.Injectivity.{Accepted}
+use Rattle.mac_theorems.specs.Demand3.{Accepted}
 use Rattle.mac.proofs.ListedElements.{never-met}
 use Rattle.mac.proofs.From13Answers.{TailAccepts, tail-accepts, tail-accepted}
 
@@ -26,12 +26,15 @@ pub record IsRead (d : List ℕ) : Type 0 where
   pub next : ℕ
   pub is : dataSet d ≡ Reading.read (tree d) next
 
+pub read-is : (d : List ℕ) (es : Elements) (next : ℕ) → dataSet d ≡ Reading.read es next → IsRead d
+read-is d es next e = record { next = next; is = e ∙ ap (λ (x : Elements). Reading.read x next) (sym (ap treeOf e)) }
+
 pub is-read : (d : List ℕ) → answerOf (dataSet d) .number ≡ 0 → IsRead d
 is-read d = go (dataSet d) refl
   where
     go : (r : Reading Elements) → dataSet d ≡ r → answerOf r .number ≡ 0 → IsRead d
     go (Reading.fault f) e h = let l = faults-inside d f e .least in absurd (omega arith)
-    go (Reading.read es n) e h = record { next = n; is = e ∙ ap (λ (x : Elements). Reading.read x n) (sym (ap treeOf e)) }
+    go (Reading.read es n) e h = read-is d es n e
 
 -- none of the refusals
 pub record Accepts (c : Call) : Type 0 where

@@ -1,6 +1,7 @@
--- What every answer of a call is: its number is not 17, a refusal has length 0, the position is as its number says, and 16 is given only where the output is short. Assumes nothing.
+-- What every answer of a call is: its number is one that can come, a refusal has length 0, the position is as the number says. Refusal by
+-- refusal for either mode, and of list mode's answer as a whole. Assumes nothing.
 use Prim.Native.Nat.{ℕ, suc, _+_, _-_, _≤_, _<_}
-use mathlib.Core.Path.{_≡_, refl}
+use mathlib.Core.Path.{_≡_, refl, sym, ap, _∙_}
 use mathlib.Core.Logic.{_≢_}
 use mathlib.Core.Bool.{Bool, true, false, true≢false}
 use mathlib.Core.List.{List, [], _∷_}
@@ -17,46 +18,58 @@ use Rattle.answer.proofs.Chain.{or-else-holds}
 use Rattle.dataset.specs.Tree.{Element, Elements}
 use Rattle.dataset.specs.Reading.{Reading, fault, read, explicit, elementsAt, sizeLimit, levels, dataSet, answerOf, tree}
 use Rattle.dataset.specs.Lookup.{elementOf}
+use Rattle.dataset.proofs.Bools.{choose}
 use Rattle.dataset.proofs.Bounded.{explicit-bounded}
 use Rattle.dataset.proofs.Within.{Within, elements-within}
 use Rattle.dataset.proofs.Steps.{data-set-is, data-set-over}
 use Rattle.mac.specs.TagList.{tagsIn, barred, ascendingAnswer, unbarredAnswer, badSize, listAnswer}
 use Rattle.mac.specs.UN.{isUN, holdsUN, contentWritesUN}
 use Rattle.mac.specs.Modes.{elementAnswer, tagsAnswer, badDigestLength, answerFrom13}
-use Rattle.mac.specs.ListMode.{Call, contentOf, stream, answer}
+use Rattle.mac.specs.ListMode.{Call, contentOf, answer}
 use Rattle.mac.proofs.ListedElements.{never-met}
-use Rattle.mac_theorems.specs.Theorems.{Positioned}
-use Rattle.mac_theorems.proofs.Longest.{list-never-longer}
+use Rattle.mac_theorems.specs.Theorems.{EitherCall, inListMode, inSignatureMode, setOf, listOf, roomOf, resultOf, highest, Positioned}
+use Rattle.mac_theorems.proofs.SignatureStreamLength.{never-longer}
 
--- of a data set of `size` bytes and a list of `count` tags; `Short` says that the output is short
-pub record Regular (size count : ℕ) (Short : Type 0) (a : Answer) : Type 0 where
-  pub never17 : a .number ≢ 17
+-- of the number alone: 9 is given in a check only, 16 only where the output is shorter than the data set
+pub record Possible (c : EitherCall) (number : ℕ) : Type 0 where
+  pub most : number ≤ highest c
+  pub never17 : number ≢ 17
+  pub of9 : number ≡ 9 → resultOf c .expected ≢ Opt.none
+  pub of16 : number ≡ 16 → length (setOf c) ≤ roomOf c → ⊥
+
+pub record Regular (c : EitherCall) (a : Answer) : Type 0 where
+  pub possible : Possible c (a .number)
   pub nothing : a .number ≢ 0 → a .length ≡ 0
-  pub positioned : Positioned size count a
-  pub of16 : a .number ≡ 16 → Short
+  pub positioned : Positioned (length (setOf c)) (length (tagsIn (listOf c))) a
 
-module _ (size count : ℕ) (Short : Type 0) where
-  pub accepted-regular : (length : ℕ) → Regular size count Short (accepted length)
+from16 : (c : EitherCall) → 16 ≤ highest c
+from16 (inListMode c) = omega arith
+from16 (inSignatureMode c) = omega arith
+
+module _ (c : EitherCall) where
+  -- the numbers of which nothing more is to be said
+  other-possible : (number : ℕ) → number < 16 → number ≢ 9 → Possible c number
+  other-possible number h n = record { most = omega (arith, from16 c); never17 = λ z. omega arith; of9 = λ z. absurd (n z); of16 = λ z. absurd (omega arith) }
+
+  pub accepted-regular : (length : ℕ) → Regular c (accepted length)
   accepted-regular length = record {
-    never17 = λ z. omega arith;
+    possible = other-possible 0 (omega arith) (λ z. omega arith);
     nothing = λ n. absurd (n refl);
     positioned = record { offset = λ l k. omega arith; index = λ l k. absurd (omega arith); below2 = λ l. refl; of9and10 = λ l k. refl; above15 = λ l. refl };
-    of16 = λ z. absurd (omega arith);
   }
 
-  -- a number whose position is 0, of which `short` says when it is 16
-  pub plain-regular : (number : ℕ) → number ≢ 17 → (11 ≤ number → number ≤ 15 → ⊥) → (number ≡ 16 → Short) → Regular size count Short (refused number 0)
-  plain-regular number h k short = record {
-    never17 = h;
+  -- a number whose position is 0
+  pub plain-regular : (number : ℕ) → (11 ≤ number → number ≤ 15 → ⊥) → Possible c number → Regular c (refused number 0)
+  plain-regular number k p = record {
+    possible = p;
     nothing = λ n. refl;
     positioned = record { offset = λ l u. omega arith; index = λ l u. absurd (k l u); below2 = λ l. refl; of9and10 = λ l u. refl; above15 = λ l. refl };
-    of16 = short;
   }
 
   -- a number whose position is an index
-  index-regular : (number index : ℕ) → 11 ≤ number → number ≤ 15 → index < count → Regular size count Short (refused number index)
+  index-regular : (number index : ℕ) → 11 ≤ number → number ≤ 15 → index < length (tagsIn (listOf c)) → Regular c (refused number index)
   index-regular number index h k i = record {
-    never17 = λ z. omega arith;
+    possible = other-possible number (omega arith) (λ z. omega arith);
     nothing = λ n. refl;
     positioned = record {
       offset = λ l u. absurd (omega arith);
@@ -65,13 +78,12 @@ module _ (size count : ℕ) (Short : Type 0) where
       of9and10 = λ l u. absurd (omega arith);
       above15 = λ l. absurd (omega arith);
     };
-    of16 = λ z. absurd (omega arith);
   }
 
   -- a number whose position is an offset
-  offset-regular : (f : Answer) → 2 ≤ f .number → f .number ≤ 8 → f .length ≡ 0 → f .position ≤ size → Regular size count Short f
+  offset-regular : (f : Answer) → 2 ≤ f .number → f .number ≤ 8 → f .length ≡ 0 → f .position ≤ length (setOf c) → Regular c f
   offset-regular f h k l o = record {
-    never17 = λ z. omega arith;
+    possible = other-possible (f .number) (omega arith) (λ z. omega arith);
     nothing = λ n. l;
     positioned = record {
       offset = λ l u. o;
@@ -80,107 +92,107 @@ module _ (size count : ℕ) (Short : Type 0) where
       of9and10 = λ l u. absurd (omega arith);
       above15 = λ l. absurd (omega arith);
     };
-    of16 = λ z. absurd (omega arith);
   }
 
   -- one refusal more before the others
-  pub or-else-regular : (a b : Answer) → Regular size count Short a → (a .number ≡ 0 → Regular size count Short b) → Regular size count Short (a orElse b)
-  or-else-regular a b h k = or-else-holds (Regular size count Short) a b h k
+  pub or-else-regular : (a b : Answer) → Regular c a → (a .number ≡ 0 → Regular c b) → Regular c (a orElse b)
+  or-else-regular a b h k = or-else-holds (Regular c) a b h k
 
-  if-regular : (t : Bool) (a b : Answer) → Regular size count Short a → Regular size count Short b → Regular size count Short (if t then a else b)
-  unfolding if_then_else_
-  if-regular true a b h k = h
-  if-regular false a b h k = k
+  -- a refusal by a test, which is regular where the test holds
+  test-regular : (t : Bool) (a b : Answer) → (t ≡ true → Regular c a) → Regular c b → Regular c (if t then a else b)
+  test-regular t a b h k = choose (Regular c) t h (λ z. k)
 
-  test-regular : (t : Bool) (number : ℕ) → number < 11 → Regular size count Short (if t then refused number 0 else accepted 0)
-  test-regular t number h = if-regular t _ _ (plain-regular number (λ z. omega arith) (λ l u. omega arith) (λ z. absurd (omega arith))) (accepted-regular 0)
+  -- 1 and 10
+  size-regular : (t : Bool) (number : ℕ) → number < 11 → number ≢ 9 → Regular c (if t then refused number 0 else accepted 0)
+  size-regular t number h n =
+      test-regular t _ _ (λ z. plain-regular number (λ l u. omega arith) (other-possible number (omega arith) n)) (accepted-regular 0)
 
-  ascending-regular : (index least : ℕ) (tags : List ℕ) → index + length tags ≤ count → Regular size count Short (ascendingAnswer index least tags)
+  ascending-regular : (index least : ℕ) (tags : List ℕ) → index + length tags ≤ length (tagsIn (listOf c)) → Regular c (ascendingAnswer index least tags)
   unfolding ascendingAnswer
   ascending-regular index least [] h = accepted-regular 0
   ascending-regular index least (tag ∷ tags) h =
-      if-regular (ltb tag least) _ _ (index-regular 11 index (omega arith) (omega arith) (omega arith)) (ascending-regular (index + 1) (tag + 1) tags (omega arith))
+      test-regular (ltb tag least) _ _ (λ z. index-regular 11 index (omega arith) (omega arith) (omega arith)) (ascending-regular (index + 1) (tag + 1) tags (omega arith))
 
-  unbarred-regular : (index : ℕ) (tags : List ℕ) → index + length tags ≤ count → Regular size count Short (unbarredAnswer index tags)
+  unbarred-regular : (index : ℕ) (tags : List ℕ) → index + length tags ≤ length (tagsIn (listOf c)) → Regular c (unbarredAnswer index tags)
   unfolding unbarredAnswer
   unbarred-regular index [] h = accepted-regular 0
   unbarred-regular index (tag ∷ tags) h =
-      if-regular (barred tag) _ _ (index-regular 12 index (omega arith) (omega arith) (omega arith)) (unbarred-regular (index + 1) tags (omega arith))
+      test-regular (barred tag) _ _ (λ z. index-regular 12 index (omega arith) (omega arith) (omega arith)) (unbarred-regular (index + 1) tags (omega arith))
 
-  pub list-regular : (list : List ℕ) → length (tagsIn list) ≤ count → Regular size count Short (listAnswer list)
+  pub list-regular : Regular c (listAnswer (listOf c))
   unfolding listAnswer
-  list-regular list h =
-      or-else-regular _ _ (test-regular (badSize (length list)) 10 (omega arith)) λ z.
-      or-else-regular _ _ (ascending-regular 0 0 (tagsIn list) (omega arith)) λ k. unbarred-regular 0 (tagsIn list) (omega arith)
+  list-regular =
+      or-else-regular _ _ (size-regular (badSize (length (listOf c))) 10 (omega arith) (λ z. omega arith)) λ z.
+      or-else-regular _ _ (ascending-regular 0 0 (tagsIn (listOf c)) (omega arith)) λ k. unbarred-regular 0 (tagsIn (listOf c)) (omega arith)
 
-  element-regular : (index : ℕ) (o : Option Element) → index < count → Regular size count Short (elementAnswer index o)
+  element-regular : (index : ℕ) (o : Option Element) → index < length (tagsIn (listOf c)) → Regular c (elementAnswer index o)
   unfolding elementAnswer
   element-regular index Opt.none h = index-regular 13 index (omega arith) (omega arith) h
   element-regular index (some e) h =
-      if-regular (isUN e) _ _ (index-regular 14 index (omega arith) (omega arith) h)
-      (if-regular (holdsUN e) _ _ (index-regular 15 index (omega arith) (omega arith) h) (accepted-regular 0))
+      test-regular (isUN e) _ _ (λ z. index-regular 14 index (omega arith) (omega arith) h)
+      (test-regular (holdsUN e) _ _ (λ z. index-regular 15 index (omega arith) (omega arith) h) (accepted-regular 0))
 
-  tags-regular : (index : ℕ) (tags : List ℕ) (es : Elements) → index + length tags ≤ count → Regular size count Short (tagsAnswer index tags es)
+  tags-regular : (index : ℕ) (tags : List ℕ) (es : Elements) → index + length tags ≤ length (tagsIn (listOf c)) → Regular c (tagsAnswer index tags es)
   unfolding tagsAnswer
   tags-regular index [] es h = accepted-regular 0
   tags-regular index (tag ∷ tags) es h =
       or-else-regular _ _ (element-regular index (elementOf tag es) (omega arith)) λ z. tags-regular (index + 1) tags es (omega arith)
 
-  room-regular : (room need : ℕ) → (room < need → Short) → Regular size count Short (if ltb room need then refused 16 0 else accepted 0)
-  unfolding if_then_else_
-  room-regular room need short = go (ltb room need) refl
-    where
-      go : (b : Bool) → ltb room need ≡ b → Regular size count Short (if b then refused 16 0 else accepted 0)
-      go true e = plain-regular 16 (λ z. omega arith) (λ l u. omega arith) (λ z. short (ltb-true room need e))
-      go false e = accepted-regular 0
-
-  unmet-regular : (b : Bool) → b ≡ false → Regular size count Short (if b then refused 17 0 else accepted 0)
-  unfolding if_then_else_
-  unmet-regular true e = absurd (true≢false e)
-  unmet-regular false e = accepted-regular 0
-
-  -- the end of the order; 17's test is false where none of 13, 14 and 15 holds
-  pub tail-regular : (tags : List ℕ) (es : Elements) (metUN : Bool) (stream : List ℕ) (room : ℕ) (expected : Option (List ℕ))
-      → length tags ≤ count → (tagsAnswer 0 tags es .number ≡ 0 → metUN ≡ false) → (room < length stream → Short)
-      → Regular size count Short (answerFrom13 tags es metUN stream room expected)
+  -- the end of the order, where the list is not refused; 17's test is false where none of 13, 14 and 15 holds
+  pub tail-regular : (es : Elements) (metUN : Bool) → (tagsAnswer 0 (tagsIn (listOf c)) es .number ≡ 0 → metUN ≡ false) → listAnswer (listOf c) .number ≡ 0
+      → Regular c (answerFrom13 (tagsIn (listOf c)) es metUN (resultOf c .stream) (roomOf c) (resultOf c .expected))
   unfolding answerFrom13
-  tail-regular tags es metUN stream room expected h unmet short =
-      or-else-regular (tagsAnswer 0 tags es) _ (tags-regular 0 tags es (omega arith)) λ found.
-      or-else-regular (if badDigestLength expected then refused 9 0 else accepted 0) _ (test-regular (badDigestLength expected) 9 (omega arith)) λ z.
-      or-else-regular (if ltb room (length stream) then refused 16 0 else accepted 0) _ (room-regular room (length stream) short) λ z.
-      or-else-regular (if metUN then refused 17 0 else accepted 0) _ (unmet-regular metUN (unmet found)) λ z. accepted-regular (length stream)
+  tail-regular es metUN unmet h =
+      or-else-regular _ _ (tags-regular 0 (tagsIn (listOf c)) es (omega arith)) λ found.
+      or-else-regular _ _ (test-regular (badDigestLength (resultOf c .expected)) _ _ of9 (accepted-regular 0)) λ z.
+      or-else-regular _ _ (test-regular (ltb (roomOf c) (length (resultOf c .stream))) _ _ of16 (accepted-regular 0)) λ z.
+      or-else-regular _ _ (test-regular metUN _ _ (λ t. absurd (true≢false (sym t ∙ unmet found))) (accepted-regular 0)) λ z.
+      accepted-regular (length (resultOf c .stream))
+    where
+      of9 : badDigestLength (resultOf c .expected) ≡ true → Regular c (refused 9 0)
+      of9 t = plain-regular 9 (λ l u. omega arith) record {
+        most = omega (arith, from16 c);
+        never17 = λ z. omega arith;
+        of9 = λ z e. true≢false (sym t ∙ ap badDigestLength e);
+        of16 = λ z. absurd (omega arith);
+      }
 
--- the reading
-pub reading-regular : (d : List ℕ) (count : ℕ) (Short : Type 0) → Regular (length d) count Short (answerOf (dataSet d))
-unfolding elementsAt
-reading-regular d count Short = by-size (ltb sizeLimit (length d)) refl
-  where
-    by-reading : (r : Reading Elements) → Within 0 (length d) r → Regular (length d) count Short (answerOf r)
-    by-reading (fault f) w = offset-regular (length d) count Short f (w .number .0) (w .number .1) (w .nothing) (w .inside)
-    by-reading (read es n) w = accepted-regular (length d) count Short 0
+      of16 : ltb (roomOf c) (length (resultOf c .stream)) ≡ true → Regular c (refused 16 0)
+      of16 t = plain-regular 16 (λ l u. omega arith) record {
+        most = from16 c;
+        never17 = λ z. omega arith;
+        of9 = λ z. absurd (omega arith);
+        of16 = λ z l. omega (arith, ltb-true (roomOf c) (length (resultOf c .stream)) t, never-longer c h);
+      }
 
-    by-size : (b : Bool) → ltb sizeLimit (length d) ≡ b → Regular (length d) count Short (answerOf (dataSet d))
-    by-size true e = rw (data-set-over d (ltb-true sizeLimit (length d) e)) (plain-regular (length d) count Short 1 (λ z. omega arith) (λ l u. omega arith) (λ z. absurd (omega arith)))
-    by-size false e =
-        rw (data-set-is d (ltb-false sizeLimit (length d) e))
-        (by-reading (elementsAt explicit d false levels (length d) 0 0)
-        (elements-within explicit explicit-bounded (suc (length d - 0)) d false levels (length d) 0 0 (omega arith) (omega arith)))
+  -- the reading
+  pub reading-regular : Regular c (answerOf (dataSet (setOf c)))
+  unfolding elementsAt
+  reading-regular = by-size (ltb sizeLimit (length (setOf c))) refl
+    where
+      d : List ℕ
+      d = setOf c
+
+      by-reading : (r : Reading Elements) → Within 0 (length d) r → Regular c (answerOf r)
+      by-reading (fault f) w = offset-regular f (w .number .0) (w .number .1) (w .nothing) (w .inside)
+      by-reading (read es n) w = accepted-regular 0
+
+      by-size : (b : Bool) → ltb sizeLimit (length d) ≡ b → Regular c (answerOf (dataSet d))
+      by-size true e =
+          rw (data-set-over d (ltb-true sizeLimit (length d) e)) (plain-regular 1 (λ l u. omega arith) (other-possible 1 (omega arith) (λ z. omega arith)))
+      by-size false e =
+          rw (data-set-is d (ltb-false sizeLimit (length d) e))
+          (by-reading (elementsAt explicit d false levels (length d) 0 0)
+          (elements-within explicit explicit-bounded (suc (length d - 0)) d false levels (length d) 0 0 (omega arith) (omega arith)))
 
 -- ---- list mode
-pub answer-regular : (c : Call) → Regular (length (c .set)) (length (tagsIn (c .list))) (length (c .set) ≤ c .room → ⊥) (answer c)
+pub answer-regular : (c : Call) → Regular (inListMode c) (answer c)
 unfolding answer contentOf
 answer-regular c =
-    or-else-regular size count Short _ _ (test-regular size count Short _ 1 (omega arith)) λ h.
-    or-else-regular size count Short _ _ (list-regular size count Short (c .list) (omega arith)) λ h.
-    or-else-regular size count Short _ _ (reading-regular (c .set) count Short) λ k.
-    tail-regular size count Short (tagsIn (c .list)) (tree (c .set)) (contentWritesUN (contentOf c)) (stream c) (c .room) (c .expected) (omega arith)
-    (never-met (tagsIn (c .list)) (tree (c .set)) (c .set)) (λ z r. omega (arith, list-never-longer c h))
+    or-else-regular k _ _ (size-regular k (ltb sizeLimit (length (c .set))) 1 (omega arith) (λ z. omega arith)) λ z.
+    or-else-regular k _ _ (list-regular k) λ h.
+    or-else-regular k _ _ (reading-regular k) λ z.
+    tail-regular k (tree (c .set)) (contentWritesUN (contentOf c)) (never-met (tagsIn (c .list)) (tree (c .set)) (c .set)) h
   where
-    size : ℕ
-    size = length (c .set)
-
-    count : ℕ
-    count = length (tagsIn (c .list))
-
-    Short : Type 0
-    Short = length (c .set) ≤ c .room → ⊥
+    k : EitherCall
+    k = inListMode c

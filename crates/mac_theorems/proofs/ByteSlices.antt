@@ -3,11 +3,10 @@ use Prim.Native.Nat.{ℕ, suc, _+_, _-_, _*_, _/_, _%_, _≤_, _<_}
 use mathlib.Core.Path.{_≡_, sym, ap, ap₂, _∙_}
 use mathlib.Core.List.{List, [], _∷_, _++_}
 use native.Mathlib.Omega.{arith}
-use native.Mathlib.Numerals.{add-one}
 use lib.ListN.{length, getD}
-use lib.Seq.{drop-cons}
 use Rattle.dataset.specs.Bytes.{num16, num32, tagAt, vrAt, between}
-use Rattle.mac_theorems.specs.Injectivity.{Bytes}
+use Rattle.dataset.specs.Bytes.{OfBytes}
+use Rattle.mac.proofs.OutputSteps.{drop-one}
 
 -- the two and the four bytes of a number, low byte first
 abbrev pub bytes16 : ℕ → List ℕ
@@ -34,7 +33,7 @@ unfolding between
 between-cons d a e h k =
     let n : e - a ≡ suc (e - (a + 1)) = omega arith in
     let l : a < length d = omega arith in
-    rw (n, drop-cons d a 0 l, add-one)
+    rw (n, drop-one d a l)
 
 from-same : (d : List ℕ) (a b e : ℕ) → a ≡ b → between d a e ≡ between d b e
 from-same d a b e h = ap (λ (x : ℕ). between d x e) h
@@ -60,7 +59,7 @@ bytes-of x y h k =
     let w : y % 256 ≡ y = omega arith in
     ap₂ (λ (a b : ℕ). a ∷ b ∷ []) p (ap (λ (n : ℕ). n % 256) z ∙ w)
 
-module _ (d : List ℕ) (b : Bytes d) where
+module _ (d : List ℕ) (b : OfBytes d) where
   pub small16 : (i : ℕ) → num16 d i < 65536
   unfolding num16
   small16 i = omega (arith, b i, b (i + 1))

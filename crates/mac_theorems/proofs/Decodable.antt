@@ -12,7 +12,7 @@ use Rattle.dataset.proofs.Lies.{ElementLies, ElementsLie, ItemsLie}
 use Rattle.dataset.specs.Reading.{sizeLimit}
 use Rattle.mac.specs.TagList.{barred, unlessBarred}
 use Rattle.mac.specs.Content.{SignedElement, SignedElements, signed, signedElements, signedItems, inFragments, someInFragments, itemsInFragments}
-use Rattle.mac_theorems.specs.Injectivity.{Bytes}
+use Rattle.dataset.specs.Bytes.{OfBytes}
 use Rattle.mac.proofs.Either.{first-false, second-false}
 use Rattle.mac.proofs.Slices.{length-between}
 use Rattle.mac_theorems.proofs.ByteSlices.{small16, small-vr}
@@ -21,10 +21,10 @@ use Rattle.mac_theorems.proofs.Decoding.{TagFits, LengthFits, Decodable
 
 -- bytes, and no more than a data set may have
 pub record WithinSize (d : List ℕ) : Type 0 where
-  pub bytes : Bytes d
+  pub bytes : OfBytes d
   pub small : length d ≤ sizeLimit
 
-tag-fits : (d : List ℕ) → Bytes d → (at tag : ℕ) → Tagged d at tag → TagFits tag
+tag-fits : (d : List ℕ) → OfBytes d → (at tag : ℕ) → Tagged d at tag → TagFits tag
 unfolding tagAt
 tag-fits d b at tag t =
     let e = t .stands in
@@ -32,7 +32,7 @@ tag-fits d b at tag t =
     let k = small16 d b (at + 2) in
     record { small = omega arith; group = λ q. t .group (omega arith) }
 
-length-fits : (short : Bool) (d : List ℕ) → Bytes d → (at start n : ℕ) → SizedAs short d at start n → n ≤ sizeLimit → LengthFits short n
+length-fits : (short : Bool) (d : List ℕ) → OfBytes d → (at start n : ℕ) → SizedAs short d at start n → n ≤ sizeLimit → LengthFits short n
 length-fits true d b at start n s h = let k = small16 d b (at + 6) in omega (arith, s .1)
 length-fits false d b at start n s h = omega arith
 

@@ -14,7 +14,7 @@ use Rattle.dataset.proofs.Lies.{ElementLies, ElementsLie, ItemsLie}
 use Rattle.mac.specs.TagList.{barred, unlessBarred}
 use Rattle.mac.specs.Content.{SignedElement, SignedElements, SignedItems, fragmentBytes, signed, signedElements, signedItems}
 use Rattle.mac.specs.Stream.{itemTagBytes, sequenceDelimiterBytes, fragmentsStream, streamOf, elementsStream, itemsStream}
-use Rattle.mac_theorems.specs.Injectivity.{Bytes}
+use Rattle.dataset.specs.Bytes.{OfBytes}
 use Rattle.mac.proofs.Slices.{length-between}
 use Rattle.mac_theorems.proofs.ByteSlices.{bytes16, bytes32, tagBytes, vrBytes, between-none, header-front, long-front}
 
@@ -64,7 +64,7 @@ sized-as vr d at start n s = go (isShort vr) refl
     go true e = rw e at s
     go false e = long (oneOf vr longForm) refl e
 
-module _ (d : List ℕ) (b : Bytes d) where
+module _ (d : List ℕ) (b : OfBytes d) where
   value-encoded : (short : Bool) (at start end : ℕ) → start ≤ end → end ≤ length d → SizedAs short d at start (end - start)
       → between d at end ≡ tagBytes (tagAt d at) ++ (vrBytes (vrAt d at) ++ (lengthBytes short (end - start) ++ between d start end))
   value-encoded true at start end h k s =
@@ -99,7 +99,7 @@ unless-barred-encoded false e rest = refl
 mutual
   unfolding ElementLies streamOf signed encode
 
-  pub element-encoded : (e : Element) (d : List ℕ) → Bytes d → (left at next : ℕ) → ElementLies e d left at next → streamOf e d ≡ encode (signed e d)
+  pub element-encoded : (e : Element) (d : List ℕ) → OfBytes d → (left at next : ℕ) → ElementLies e d left at next → streamOf e d ≡ encode (signed e d)
   element-encoded (Element.value p tag vr span) d b left at next r =
       let v = r .1 in
       let n : length (between d (span .start) (span .end)) ≡ span .end - span .start = length-between d (span .start) (span .end) (v .order) (v .inside) in
@@ -119,14 +119,14 @@ mutual
       ∙ ap₂ (λ (x y : List ℕ). x ++ y) (nest-encoded d b at OB (omega (arith, v .starts, v .inside)) (v .letters) (v .reserved)) (fragments-encoded parts d)
       ∙ ap (λ (x : ℕ). tagBytes x ++ (vrBytes OB ++ (0 ∷ 0 ∷ encodeFragments (fragmentBytes parts d)))) (sym (v .tagged .stands))
 
-  elements-encoded : (es : Elements) (d : List ℕ) → Bytes d → (left floor at next : ℕ) → ElementsLie es d left floor at next
+  elements-encoded : (es : Elements) (d : List ℕ) → OfBytes d → (left floor at next : ℕ) → ElementsLie es d left floor at next
       → elementsStream es d ≡ encodeElements (signedElements es d)
   elements-encoded Elements.none d b left floor at next r = refl
   elements-encoded (Elements.and e es) d b left floor at next r =
       ap₂ (λ (x y : List ℕ). unlessBarred (barred (tagOf e)) (λ more. x ++ more) y) (element-encoded e d b left at (r .0) (r .2)) (elements-encoded es d b left (tagOf e + 1) (r .0) next (r .3))
       ∙ unless-barred-encoded (barred (tagOf e)) (signed e d) (signedElements es d)
 
-  items-encoded : (is : Items) (d : List ℕ) → Bytes d → (left at next : ℕ) → ItemsLie is d left at next → itemsStream is d ≡ encodeItems (signedItems is d)
+  items-encoded : (is : Items) (d : List ℕ) → OfBytes d → (left at next : ℕ) → ItemsLie is d left at next → itemsStream is d ≡ encodeItems (signedItems is d)
   items-encoded Items.last d b left at next r = refl
   items-encoded (Items.item p es is) d b left at next r =
       ap₂ (λ (x y : List ℕ). itemTagBytes ++ (x ++ y)) (elements-encoded es d b (left - 1) 0 (at + 8) (r .0) (r .3)) (items-encoded is d b left (r .0) next (r .4))

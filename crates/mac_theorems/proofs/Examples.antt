@@ -1,5 +1,6 @@
--- The starred examples, all at once: both lists are computed. Assumes nothing.
+-- The starred examples, all at once, and the signed contents of 5, 6 and 9: both sides are computed. Assumes nothing.
 use mathlib.Core.Path.{refl}
+use mathlib.Core.Bool.{true≢false}
 use Rattle.answer.specs.If.{if_then_else_}
 use Rattle.answer.specs.Answer.{_orElse_}
 use Rattle.dataset.specs.Bytes.{num16, num32, tagAt, vrAt, between}
@@ -14,8 +15,12 @@ use Rattle.mac.specs.UN.{holdsUN, writesUN, sequencesWriteUN}
 use Rattle.mac.specs.Modes.{elementAnswer, tagsAnswer, answerFrom13}
 use Rattle.mac.specs.Result.{outputAfter}
 use Rattle.mac.specs.ListMode.{contentOf, stream, answer}
-use Rattle.mac_theorems.specs.Examples.{examples, ExamplesHold}
+use Rattle.mac_theorems.specs.Examples.{examples, ExamplesHold, ContentsHold}
 
 pub examples-hold : ExamplesHold
 unfolding examples answer answerFrom13 outputAfter stream contentOf _orElse_ if_then_else_ listAnswer badSize ascendingAnswer unbarredAnswer barred tagsIn tagsAnswer elementAnswer holdsUN writesUN sequencesWriteUN content signed fragmentBytes listedStream streamOf fragmentsStream elementOf dataSet elementsAt elementsBy fragmentsBy byHeader byOne byItem byFragment elementAt vrOnAt byForm longAt badLength tooDeep undefinedBy definedBy valueBy itemAt itemBy endsAt closedBy formOf oneOf num16 num32 tagAt vrAt between
 examples-hold = refl
+
+pub contents-hold : ContentsHold
+unfolding contentOf content signed fragmentBytes tagsIn barred elementOf dataSet elementsAt elementsBy fragmentsBy byHeader byOne byItem byFragment elementAt vrOnAt byForm longAt badLength tooDeep undefinedBy definedBy valueBy itemAt itemBy endsAt closedBy formOf oneOf num16 num32 tagAt vrAt between if_then_else_
+contents-hold = record { of5 = refl; of6 = refl; of9two = refl; of9one = refl; differ = λ e. true≢false (cc) }

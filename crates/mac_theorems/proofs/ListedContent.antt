@@ -1,7 +1,7 @@
 -- The listed elements: their stream and their signed content. Assumes nothing.
 use Prim.Native.Nat.{ℕ, _+_}
 use mathlib.Core.Path.{_≡_, refl, sym, ap, ap₂, _∙_, subst}
-use mathlib.Core.Bool.{true, false, true≢false}
+use mathlib.Core.Bool.{false, true≢false}
 use mathlib.Core.List.{List, [], _∷_, _++_}
 use mathlib.Core.Option.{Option, some}
 use mathlib.Core.Option as Opt
@@ -13,14 +13,14 @@ use Rattle.mac.specs.Content.{SignedElements, signed, joined, content, inFragme
 use Rattle.mac.specs.Stream.{foundStream, listedStream}
 use Rattle.mac.specs.UN.{holdsUN}
 use Rattle.mac.specs.Modes.{elementAnswer, tagsAnswer}
-use Rattle.mac_theorems.specs.Injectivity.{foundHoldsUN, listedHoldUN}
+use Rattle.mac_theorems.specs.Demand3.{foundHoldsUN, listedHoldUN}
 use Rattle.mac.proofs.Either.{first-false, second-false}
 use Rattle.mac_theorems.proofs.Encoding.{encodeElements, element-encoded}
 use Rattle.mac_theorems.proofs.Decoding.{ElementsDecodable}
 use Rattle.mac_theorems.proofs.Decodable.{WithinSize, element-decodable}
 use Rattle.mac.proofs.UN.{same-vr}
 use Rattle.mac.proofs.ListedElements.{tags-unrefused}
-use Rattle.mac_theorems.proofs.Found.{found-at}
+use Rattle.mac_theorems.proofs.FoundLies.{found-at}
 
 -- a content is that of the first listed element and that of the others
 record Joined (o : Option Element) (p : Option SignedElements) (d : List ℕ) (row : SignedElements) : Type 0 where

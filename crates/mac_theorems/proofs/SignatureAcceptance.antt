@@ -1,8 +1,9 @@
--- The answers of signature mode: what every answer is, and what an accepted call leaves. Assumes nothing.
+-- Signature mode: what every answer is; of an accepted call none of the refusals holds, and the answer is the stream's length. Assumes
+-- nothing.
 use Prim.Native.Nat.{ℕ, _≤_}
 use mathlib.Core.Path.{_≡_, refl, ap, _∙_}
 use mathlib.Core.Bool.{true}
-use mathlib.Core.List.{List, []}
+use mathlib.Core.List.{List}
 use native.Mathlib.Omega.{arith}
 use lib.ListN.{length}
 use borrow.Author.Tests.{eqb-true, ltb-false}
@@ -12,34 +13,32 @@ use Rattle.dataset.specs.Tree.{Elements}
 use Rattle.dataset.specs.Reading.{Reading, dataSet, answerOf, tree}
 use Rattle.mac.specs.TagList.{tagsIn, listAnswer}
 use Rattle.mac.specs.Result.{isAccepted}
-use Rattle.mac.specs.Selection.{Selection, refusal, selected, numberOf}
+use Rattle.mac.specs.Selection.{selected, numberOf}
 use Rattle.mac.specs.SignatureMode.{signatureWritesUN, streamBy, answerBy, Call, selection, stream, answer, result}
 use Rattle.mac.proofs.From13Answers.{TailAccepts, tail-accepts, tail-accepted}
 use Rattle.mac_theorems.proofs.Acceptance.{IsRead, is-read}
 use Rattle.mac_theorems.proofs.Answers.{Regular, plain-regular, or-else-regular, list-regular, reading-regular, tail-regular}
-use Rattle.mac_theorems.specs.Theorems.{selectedList}
-use Rattle.mac_theorems.proofs.Longest.{signature-never-longer}
-use Rattle.mac.proofs.SignatureAnswers.{Numbered, own-unmet, select-numbered}
+use Rattle.mac_theorems.proofs.SelectedItem.{select-holds}
+use Rattle.mac_theorems.specs.Theorems.{EitherCall, inSignatureMode}
+use Rattle.mac.proofs.SignatureAnswers.{own-unmet}
 
 -- ---- every answer
 module _ (c : Call) where
-  abbrev Short : Type 0
-  Short = length (c .set) ≤ c .room → ⊥
+  abbrev k : EitherCall
+  k = inSignatureMode c
 
-  by-regular : (s : Selection) → Numbered s → selection c ≡ s → Regular (length (c .set)) (length (tagsIn (selectedList s))) Short (answerBy s (tree (c .set)) (c .set) (c .room) (c .expected))
-  unfolding answerBy stream
-  by-regular (refusal number) n e = plain-regular (length (c .set)) (length (tagsIn [])) Short number (λ z. omega arith) (λ l u. omega arith) (λ z. absurd (omega arith))
-  by-regular (selected list item) n e =
-      or-else-regular (length (c .set)) (length (tagsIn list)) Short _ _ (list-regular (length (c .set)) (length (tagsIn list)) Short list (omega arith)) λ h.
-      tail-regular (length (c .set)) (length (tagsIn list)) Short (tagsIn list) (tree (c .set)) (signatureWritesUN list item (tree (c .set)) (c .set))
-      (streamBy (selected list item) (tree (c .set)) (c .set)) (c .room) (c .expected) (omega arith) (own-unmet list item (tree (c .set)) (c .set))
-      (λ z r. let n : length (streamBy (selected list item) (tree (c .set)) (c .set)) ≤ length (c .set) = rw e at (signature-never-longer c list item e h) in omega arith)
-
-  pub answer-regular : Regular (length (c .set)) (length (tagsIn (selectedList (selection c)))) Short (answer c)
-  unfolding answer
+  pub answer-regular : Regular k (answer c)
+  unfolding answer answerBy stream
   answer-regular =
-      or-else-regular (length (c .set)) (length (tagsIn (selectedList (selection c)))) Short _ _ (reading-regular (c .set) (length (tagsIn (selectedList (selection c)))) Short) λ h.
-      by-regular (selection c) (select-numbered (c .uid) (numberOf (c .which)) (tree (c .set)) (c .set)) refl
+      or-else-regular k _ _ (reading-regular k) λ z.
+      select-holds (λ s. selection c ≡ s → Regular k (answerBy s (tree (c .set)) (c .set) (c .room) (c .expected)))
+      (λ number l u e. plain-regular k number (λ p q. omega arith)
+      record { most = u; never17 = λ z. omega arith; of9 = λ z. absurd (omega arith); of16 = λ z. absurd (omega arith) })
+      (c .uid) (numberOf (c .which)) (tree (c .set)) (c .set)
+      (λ item i list e.
+      rw e at (or-else-regular k _ _ (list-regular k) λ h.
+      tail-regular k (tree (c .set)) (signatureWritesUN list item (tree (c .set)) (c .set)) (λ q. own-unmet list item (tree (c .set)) (c .set) (rw e at q)) h))
+      refl
 
 -- ---- an accepted call
 pub record Accepts (c : Call) : Type 0 where
@@ -50,19 +49,20 @@ pub record Accepts (c : Call) : Type 0 where
   pub listed : listAnswer list .number ≡ 0
   pub from13 : TailAccepts (tagsIn list) (tree (c .set)) (stream c) (c .room) (c .expected)
 
-by-selection : (c : Call) (s : Selection) → Numbered s → selection c ≡ s → IsRead (c .set) → answerBy s (tree (c .set)) (c .set) (c .room) (c .expected) .number ≡ 0 → Accepts c
-unfolding answerBy stream
-by-selection c (refusal number) n e r h = absurd (omega arith)
-by-selection c (selected list item) n e r h =
-    let l = both-accepted (listAnswer list) _ h in
-    let t = tail-accepts (tagsIn list) (tree (c .set)) (signatureWritesUN list item (tree (c .set)) (c .set)) (streamBy (selected list item) (tree (c .set)) (c .set)) (c .room) (c .expected) (l .second) in
-    record { read = r; list = list; item = item; selects = e; listed = l .first; from13 = rw e t }
-
 pub accepts : (c : Call) → answer c .number ≡ 0 → Accepts c
-unfolding answer
+unfolding answer answerBy stream
 accepts c h =
-    let r = both-accepted (answerOf (dataSet (c .set))) _ h in
-    by-selection c (selection c) (select-numbered (c .uid) (numberOf (c .which)) (tree (c .set)) (c .set)) refl (is-read (c .set) (r .first)) (r .second)
+    let r = both-accepted (answerOf (dataSet d)) _ h in
+    select-holds (λ s. selection c ≡ s → answerBy s (tree d) d (c .room) (c .expected) .number ≡ 0 → Accepts c) (λ number l u e z. absurd (omega arith))
+    (c .uid) (numberOf (c .which)) (tree d) d
+    (λ item i list e z.
+    let l = both-accepted (listAnswer list) _ z in
+    let t = tail-accepts (tagsIn list) (tree d) (signatureWritesUN list item (tree d) d) (streamBy (selected list item) (tree d) d) (c .room) (c .expected) (l .second) in
+    record { read = is-read d (r .first); list = list; item = item; selects = e; listed = l .first; from13 = rw e t })
+    refl (r .second)
+  where
+    d : List ℕ
+    d = c .set
 
 accepted-answer : (c : Call) → Accepts c → answer c ≡ accepted (length (stream c))
 unfolding answer answerBy stream

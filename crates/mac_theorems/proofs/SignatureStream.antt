@@ -1,4 +1,5 @@
--- The stream of signature mode starts with list mode's for the list that is selected, and its answers from 10 on are list mode's. Assumes nothing.
+-- The stream of signature mode starts with list mode's for the list that is selected, and its answers from 10 on are list mode's. Assumes
+-- nothing.
 use Prim.Native.Nat.{ℕ, _≤_}
 use mathlib.Core.Path.{_≡_, refl, sym, ap, _∙_}
 use mathlib.Core.Bool.{Bool, true, false, true≢false}
@@ -13,7 +14,7 @@ use Rattle.answer.specs.If.{if_then_else_}
 use Rattle.answer.specs.Answer.{accepted, refused, _orElse_}
 use Rattle.answer.proofs.Chain.{or-else-first, or-else-second, or-else-assoc}
 use Rattle.dataset.specs.Tree.{Elements}
-use Rattle.dataset.specs.Reading.{Reading, fault, read, dataSet, answerOf, treeOf, tree}
+use Rattle.dataset.specs.Reading.{Reading, fault, read, dataSet, answerOf, tree}
 use Rattle.dataset.specs.Lookup.{elementOf}
 use Rattle.mac.specs.TagList.{tagsIn, listAnswer}
 use Rattle.mac.specs.Stream.{elementsStream}
@@ -25,7 +26,7 @@ use Rattle.mac.specs.SignatureMode.{own, signatureWritesUN, streamBy, answerBy,
 use Rattle.mac.proofs.ListedElements.{never-met}
 use Rattle.mac.proofs.SignatureAnswers.{own-unmet}
 use Rattle.mac_theorems.specs.Theorems.{asList, SignatureStream}
-use Rattle.mac_theorems.proofs.Acceptance.{IsRead, answer-read}
+use Rattle.mac_theorems.proofs.Acceptance.{IsRead, read-is, answer-read}
 
 -- ---- the end of the order, of a stream and of a longer one
 module _ (tags : List ℕ) (es : Elements) (some-met all-met : Bool) (first all : List ℕ) (room : ℕ) (expected : Option (List ℕ))
@@ -89,7 +90,7 @@ module _ (c : Call) (list : List ℕ) (item : Elements) (e : selection c ≡ sel
   is-read (fault f) q =
       let z : select (c .uid) (numberOf (c .which)) Elements.none d ≡ selected list item = rw q at e in
       absurd (true≢false (cc))
-  is-read (read es n) q = record { next = n; is = q ∙ ap (λ (x : Elements). read x n) (sym (ap treeOf q)) }
+  is-read (read es n) q = read-is d es n q
 
   module _ (r : IsRead d) where
     abbrev es : Elements

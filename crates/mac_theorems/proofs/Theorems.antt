@@ -1,45 +1,48 @@
 -- The theorems that specs/Theorems.antt states. Assumes nothing.
 use Prim.Native.Nat.{_≤_}
 use mathlib.Core.Path.{_≡_, sym, ap, _∙_}
-use mathlib.Core.Bool.{true, false, true≢false}
+use mathlib.Core.Bool.{true, true≢false}
 use native.Mathlib.Omega.{arith}
 use lib.ListN.{length}
 use borrow.Author.Tests.{eq-eqb, eqb-true, ltb-false}
 use Rattle.answer.specs.declared.Answer.{Answer}
 use Rattle.answer.specs.Answer.{accepted}
-use Rattle.mac.specs.TagList.{tagsIn}
 use Rattle.mac.specs.Result.{isAccepted}
 use Rattle.mac.specs.ListMode as listMode
-use Rattle.mac_theorems.specs.Theorems.{Call, inListMode, inSignatureMode, setOf, listOf, roomOf, resultOf, Never17, Positions, AcceptedOutput, RefusedOutput, VerdictExact, EnoughRoom, Theorems}
+use Rattle.mac_theorems.specs.Theorems.{EitherCall, inListMode, inSignatureMode, roomOf, resultOf, Never17, Numbers, Positions, AcceptedOutput, RefusedOutput, VerdictExact, EnoughRoom, Theorems}
 use Rattle.mac_theorems.proofs.Answers.{Regular, answer-regular}
 use Rattle.mac_theorems.proofs.Acceptance.{accepts, answer-accepted}
 use Rattle.mac_theorems.proofs.SignatureAcceptance as signed
 use Rattle.mac_theorems.proofs.Outputs.{output-stream, output-rest, output-room, output-refused}
 use Rattle.mac_theorems.proofs.Verdicts.{says}
 use Rattle.mac_theorems.proofs.SignatureStream.{signature-stream}
-use Rattle.mac_theorems.proofs.Longest.{list-never-longer, signature-never-longer}
+use Rattle.mac_theorems.proofs.CheckAnswers.{checks-as-stream}
+use Rattle.mac_theorems.proofs.SignatureStreamLength.{never-longer}
 
 -- ---- a call in either mode
-call-regular : (c : Call) → Regular (length (setOf c)) (length (tagsIn (listOf c))) (length (setOf c) ≤ roomOf c → ⊥) (resultOf c .answer)
+call-regular : (c : EitherCall) → Regular c (resultOf c .answer)
 call-regular (inListMode c) = answer-regular c
 call-regular (inSignatureMode c) = signed.answer-regular c
 
-call-accepted : (c : Call) → isAccepted (resultOf c) ≡ true → resultOf c .answer ≡ accepted (length (resultOf c .stream))
+call-accepted : (c : EitherCall) → isAccepted (resultOf c) ≡ true → resultOf c .answer ≡ accepted (length (resultOf c .stream))
 call-accepted (inListMode c) h = answer-accepted c h
 call-accepted (inSignatureMode c) h = signed.answer-accepted c h
 
-call-fits : (c : Call) → isAccepted (resultOf c) ≡ true → length (resultOf c .stream) ≤ roomOf c
+call-fits : (c : EitherCall) → isAccepted (resultOf c) ≡ true → length (resultOf c .stream) ≤ roomOf c
 call-fits (inListMode c) h = ltb-false (c .room) (length (listMode.stream c)) (accepts c (eqb-true (listMode.answer c .number) 0 h) .from13 .fits)
 call-fits (inSignatureMode c) h = signed.answer-fits c h
 
 never-17 : Never17
-never-17 c = call-regular c .never17
+never-17 c = call-regular c .possible .never17
+
+numbers : Numbers
+numbers = record { most = λ c. call-regular c .possible .most; of-stream = λ c e z. call-regular c .possible .of9 z e }
 
 positions : Positions
 positions c = call-regular c .positioned
 
 enough-room : EnoughRoom
-enough-room c h z = call-regular c .of16 z h
+enough-room c h z = call-regular c .possible .of16 z h
 
 accepted-output : AcceptedOutput
 accepted-output c out h r =
@@ -64,12 +67,13 @@ verdict-exact c e x = says (resultOf c) e x
 pub theorems : Theorems
 theorems = record {
   never-17 = never-17;
+  numbers = numbers;
   positions = positions;
   accepted-output = accepted-output;
   refused-output = refused-output;
   verdict-exact = verdict-exact;
-  list-never-longer = list-never-longer;
-  signature-never-longer = signature-never-longer;
+  checks-as-stream = checks-as-stream;
+  never-longer = never-longer;
   enough-room = enough-room;
   signature-stream = signature-stream;
 }

@@ -2,12 +2,13 @@
 use Prim.Native.Nat.{ℕ}
 use mathlib.Core.Path.{_≡_, refl, sym, ap, ap₂, _∙_}
 use mathlib.Core.Logic.{_≢_}
-use mathlib.Core.Bool.{Bool, true, false, _&&_, true≢false, false≢true}
+use mathlib.Core.Bool.{Bool, true, false, true≢false, false≢true}
 use mathlib.Core.List.{List, [], _∷_}
 use mathlib.Core.Option.{Option, some}
 use lib.Dec.{eqb}
 use borrow.Author.Tests.{eqb-true, eq-eqb}
 use Rattle.answer.specs.If.{if_then_else_}
+use Rattle.dataset.proofs.Bools.{both}
 use Rattle.digest.specs.Message.{digestOf}
 use Rattle.digest.specs.Sha256.{sha256}
 use Rattle.mac.specs.Result.{Result, isAccepted, compared, verdictOf}
@@ -17,20 +18,16 @@ use Rattle.mac.specs.declared.verdict.Verdict.the-variants as verdict
 use Rattle.mac_theorems.specs.Theorems.{Says}
 
 -- ---- the comparison
-both-true : (a b : Bool) → a && b ≡ true → (a ≡ true) × (b ≡ true)
-both-true true b h = (refl, h)
-both-true false b h = absurd (false≢true h)
-
-pub same-bytes : (x y : List ℕ) → sameBytes x y ≡ true → x ≡ y
+same-bytes : (x y : List ℕ) → sameBytes x y ≡ true → x ≡ y
 unfolding sameBytes
 same-bytes [] [] h = refl
 same-bytes [] (b ∷ y) h = absurd (false≢true h)
 same-bytes (a ∷ x) [] h = absurd (false≢true h)
 same-bytes (a ∷ x) (b ∷ y) h =
-    let p = both-true (eqb a b) (sameBytes x y) h in
+    let p = both (eqb a b) (sameBytes x y) h in
     ap₂ (λ (n : ℕ) (z : List ℕ). n ∷ z) (eqb-true a b (p .0)) (same-bytes x y (p .1))
 
-pub bytes-same : (x : List ℕ) → sameBytes x x ≡ true
+bytes-same : (x : List ℕ) → sameBytes x x ≡ true
 unfolding sameBytes
 bytes-same [] = refl
 bytes-same (a ∷ x) = rw (eq-eqb a a refl, bytes-same x)

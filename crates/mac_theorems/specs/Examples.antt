@@ -1,13 +1,17 @@
--- The starred examples of 01, "Examples", 1 to 10: calls for the stream, and what each gives back. Proved together in proofs/Examples.antt.
+-- The starred examples of 01, "Examples", 1 to 10: calls for the stream, what each gives back, and the signed contents of 5, 6 and 9.
+-- Proved in proofs/Examples.antt.
 -- Assumes nothing.
 use Prim.Native.Nat.{ℕ}
 use mathlib.Core.Path.{_≡_}
+use mathlib.Core.Logic.{_≢_}
 use mathlib.Core.List.{List, [], _∷_, _++_, map}
+use mathlib.Core.Option.{Option, some}
 use lib.ListN.{length, drop, replicate}
 use Rattle.answer.specs.declared.Answer.{Answer}
 use Rattle.answer.specs.Answer.{accepted, refused}
+use Rattle.mac.specs.Content.{SignedElement, SignedElements, SignedItems}
 use Rattle.mac.specs.Result.{outputAfter}
-use Rattle.mac.specs.ListMode.{streamCall, answer, result}
+use Rattle.mac.specs.ListMode.{streamCall, contentOf, answer, result}
 
 pub record Example : Type 0 where
   pub list : List ℕ
@@ -27,8 +31,8 @@ given x =
     let c = streamCall (x .list) (x .set) out in
     (answer c, outputAfter (result c) out)
 
-abbrev pub expected : Example → Answer × List ℕ
-expected x = (x .answers, x .stream ++ drop (length (x .stream)) (untouched (x .room)))
+abbrev pub wanted : Example → Answer × List ℕ
+wanted x = (x .answers, x .stream ++ drop (length (x .stream)) (untouched (x .room)))
 
 abbrev accepts : (list set : List ℕ) (room length : ℕ) (stream : List ℕ) → Example
 accepts list set room length stream = record { list = list; set = set; room = room; answers = accepted length; stream = stream }
@@ -69,15 +73,15 @@ abbrev pixelData : List ℕ
 pixelData = 0xE0 ∷ 0x7F ∷ 0x10 ∷ 0x00 ∷ []
 
 -- SQ or OB and the reserved bytes after the tag
-abbrev pub SQ : List ℕ
-SQ = 0x53 ∷ 0x51 ∷ 0x00 ∷ 0x00 ∷ []
+abbrev pub SQreserved : List ℕ
+SQreserved = 0x53 ∷ 0x51 ∷ 0x00 ∷ 0x00 ∷ []
 
-abbrev pub OB : List ℕ
-OB = 0x4F ∷ 0x42 ∷ 0x00 ∷ 0x00 ∷ []
+abbrev pub OBreserved : List ℕ
+OBreserved = 0x4F ∷ 0x42 ∷ 0x00 ∷ 0x00 ∷ []
 
 -- a length below 256, and the undefined length
-abbrev pub long : ℕ → List ℕ
-long n = n ∷ 0x00 ∷ 0x00 ∷ 0x00 ∷ []
+abbrev pub fourByteLength : ℕ → List ℕ
+fourByteLength n = n ∷ 0x00 ∷ 0x00 ∷ 0x00 ∷ []
 
 abbrev undefined : List ℕ
 undefined = 0xFF ∷ 0xFF ∷ 0xFF ∷ 0xFF ∷ []
@@ -96,32 +100,41 @@ sequenceDelimiter = 0xFE ∷ 0xFF ∷ 0xDD ∷ 0xE0 ∷ []
 
 -- "40 00 30 A7 53 51 00 00 12 00 00 00, FE FF 00 E0 0A 00 00 00, S (30 bytes)"
 abbrev defined : List ℕ
-defined = contentSequence ++ SQ ++ long 0x12 ++ item ++ long 0x0A ++ S
+defined = contentSequence ++ SQreserved ++ fourByteLength 0x12 ++ item ++ fourByteLength 0x0A ++ S
 
 -- "The same, both lengths undefined and both delimiters present (46 bytes)"
 abbrev delimited : List ℕ
-delimited = contentSequence ++ SQ ++ undefined ++ item ++ undefined ++ S ++ itemDelimiter ++ long 0 ++ sequenceDelimiter ++ long 0
+delimited =
+    contentSequence ++ SQreserved ++ undefined ++ item ++ undefined ++ S
+    ++ itemDelimiter ++ fourByteLength 0 ++ sequenceDelimiter ++ fourByteLength 0
 
 -- "40 00 30 A7 53 51 00 00, FE FF 00 E0, S, FE FF DD E0 (26 bytes)"
 abbrev sequenceStream : List ℕ
-sequenceStream = contentSequence ++ SQ ++ item ++ S ++ sequenceDelimiter
+sequenceStream = contentSequence ++ SQreserved ++ item ++ S ++ sequenceDelimiter
 
 -- "The same sequence with no item"
 abbrev noItem : List ℕ
-noItem = contentSequence ++ SQ ++ long 0
+noItem = contentSequence ++ SQreserved ++ fourByteLength 0
+
+-- and this with undefined length
+abbrev noItemDelimited : List ℕ
+noItemDelimited = contentSequence ++ SQreserved ++ undefined ++ sequenceDelimiter ++ fourByteLength 0
+
+abbrev noItemStream : List ℕ
+noItemStream = contentSequence ++ SQreserved ++ sequenceDelimiter
 
 -- "E0 7F 10 00 4F 42 00 00 FF FF FF FF with fragments AA BB and CC DD, or with the one fragment AA BB FE FF 00 E0 CC DD"
 abbrev fragmented : (fragments : List ℕ) → List ℕ
-fragmented fragments = pixelData ++ OB ++ undefined ++ fragments ++ sequenceDelimiter ++ long 0
+fragmented fragments = pixelData ++ OBreserved ++ undefined ++ fragments ++ sequenceDelimiter ++ fourByteLength 0
 
 abbrev twoFragments : List ℕ
-twoFragments = fragmented (item ++ long 2 ++ 0xAA ∷ 0xBB ∷ item ++ long 2 ++ 0xCC ∷ 0xDD ∷ [])
+twoFragments = fragmented (item ++ fourByteLength 2 ++ 0xAA ∷ 0xBB ∷ item ++ fourByteLength 2 ++ 0xCC ∷ 0xDD ∷ [])
 
 abbrev oneFragment : List ℕ
-oneFragment = fragmented (item ++ long 8 ++ 0xAA ∷ 0xBB ∷ 0xFE ∷ 0xFF ∷ 0x00 ∷ 0xE0 ∷ 0xCC ∷ 0xDD ∷ [])
+oneFragment = fragmented (item ++ fourByteLength 8 ++ 0xAA ∷ 0xBB ∷ 0xFE ∷ 0xFF ∷ 0x00 ∷ 0xE0 ∷ 0xCC ∷ 0xDD ∷ [])
 
 abbrev fragmentsStream : List ℕ
-fragmentsStream = pixelData ++ OB ++ item ++ 0xAA ∷ 0xBB ∷ item ++ 0xCC ∷ 0xDD ∷ sequenceDelimiter
+fragmentsStream = pixelData ++ OBreserved ++ item ++ 0xAA ∷ 0xBB ∷ item ++ 0xCC ∷ 0xDD ∷ sequenceDelimiter
 
 -- ---- the examples, by their numbers; the room of 32 bytes is more than enough
 unfoldable pub examples : List Example
@@ -132,7 +145,8 @@ examples =
     ∷ refuses patientName B3 32 7 0  -- 4
     ∷ accepts contentSequence defined 32 26 sequenceStream  -- 5
     ∷ accepts contentSequence delimited 32 26 sequenceStream  -- 6
-    ∷ accepts contentSequence noItem 32 12 (contentSequence ++ SQ ++ sequenceDelimiter)  -- 7
+    ∷ accepts contentSequence noItem 32 12 noItemStream  -- 7
+    ∷ accepts contentSequence noItemDelimited 32 12 noItemStream  -- 7, with undefined length
     ∷ accepts contentSequence defined 26 26 sequenceStream  -- 8
     ∷ refuses contentSequence defined 25 16 0  -- 8
     ∷ accepts pixelData twoFragments 32 24 fragmentsStream  -- 9
@@ -142,4 +156,41 @@ examples =
     ∷ []
 
 abbrev pub ExamplesHold : Type 0
-ExamplesHold = map given examples ≡ map expected examples
+ExamplesHold = map given examples ≡ map wanted examples
+
+-- ---- signed contents
+
+abbrev contentIn : (list set : List ℕ) → Option SignedElements
+contentIn list set = contentOf (streamCall list set [])
+
+-- a content of one element
+abbrev one : SignedElement → SignedElements
+one e = SignedElements.and e SignedElements.none
+
+-- "SH" as the definitions have a VR: its first letter x 256 + its second
+abbrev SH : ℕ
+SH = 0x5348
+
+-- (0040,A730) with one item, in which (0008,0100) SH has the value 41 31
+abbrev sequenceContent : SignedElements
+sequenceContent =
+    one (SignedElement.sequence 0x0040A730 (SignedItems.item (one (SignedElement.value 0x00080100 SH (0x41 ∷ 0x31 ∷ []))) SignedItems.last))
+
+-- (7FE0,0010) with these fragments
+abbrev fragmentsContent : (fragments : List (List ℕ)) → SignedElements
+fragmentsContent fragments = one (SignedElement.fragments 0x7FE00010 fragments)
+
+abbrev twoFragmentsContent : SignedElements
+twoFragmentsContent = fragmentsContent ((0xAA ∷ 0xBB ∷ []) ∷ (0xCC ∷ 0xDD ∷ []) ∷ [])
+
+abbrev oneFragmentContent : SignedElements
+oneFragmentContent = fragmentsContent ((0xAA ∷ 0xBB ∷ 0xFE ∷ 0xFF ∷ 0x00 ∷ 0xE0 ∷ 0xCC ∷ 0xDD ∷ []) ∷ [])
+
+-- The data sets of examples 5 and 6 have one signed content; those of 9, which have one stream, have two. "This is why the first half of
+-- demand 3 leaves out fragments."
+pub record ContentsHold : Type 0 where
+  pub of5 : contentIn contentSequence defined ≡ some sequenceContent
+  pub of6 : contentIn contentSequence delimited ≡ some sequenceContent
+  pub of9two : contentIn pixelData twoFragments ≡ some twoFragmentsContent
+  pub of9one : contentIn pixelData oneFragment ≡ some oneFragmentContent
+  pub differ : contentIn pixelData twoFragments ≢ contentIn pixelData oneFragment

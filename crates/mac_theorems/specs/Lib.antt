@@ -1,4 +1,4 @@
-pub mod Injectivity
+pub mod Demand3
 pub mod Theorems
 pub mod Examples
 pub mod SignatureExamples

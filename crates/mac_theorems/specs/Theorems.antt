@@ -1,5 +1,5 @@
--- What is true of the two modes beside demand 3: statements that a reader of the definitions would ask for, all in the record Theorems, proved in
--- proofs/Theorems.antt.
+-- What is true of the two modes beside demand 3: statements that a reader of the definitions would ask for, all in the record Theorems,
+-- proved in proofs/Theorems.antt.
 -- Assumes nothing.
 use Prim.Native.Nat.{ℕ, _≤_, _<_}
 use mathlib.Core.Path.{_≡_}
@@ -7,6 +7,7 @@ use mathlib.Core.Logic.{_↔_, _≢_}
 use mathlib.Core.Bool.{true, false}
 use mathlib.Core.List.{List, [], _++_}
 use mathlib.Core.Option.{some}
+use mathlib.Core.Option as Opt
 use lib.Dec.{ltb}
 use lib.ListN.{length, take, drop}
 use Rattle.answer.specs.declared.Answer.{Answer}
@@ -22,15 +23,16 @@ use Rattle.mac.specs.ListMode as listMode
 use Rattle.mac.specs.Selection.{Selection, refusal, selected}
 use Rattle.mac.specs.SignatureMode.{own}
 use Rattle.mac.specs.SignatureMode as signatureMode
+use Rattle.mac.specs.declared.signature_mode.Signature.{Signature}
 use Rattle.mac.specs.declared.verdict.Verdict.the-variants as verdict
 
 -- ---- a call in either mode: its data set, its list (empty where none is selected), its output room, and what it comes to
 
-pub data Call : Type 0 where
-  inListMode : listMode.Call → Call
-  inSignatureMode : signatureMode.Call → Call
+pub data EitherCall : Type 0 where
+  inListMode : listMode.Call → EitherCall
+  inSignatureMode : signatureMode.Call → EitherCall
 
-abbrev pub setOf : Call → List ℕ
+abbrev pub setOf : EitherCall → List ℕ
 setOf (inListMode c) = c .set
 setOf (inSignatureMode c) = c .set
 
@@ -38,25 +40,37 @@ abbrev pub selectedList : Selection → List ℕ
 selectedList (refusal number) = []
 selectedList (selected list item) = list
 
-abbrev pub listOf : Call → List ℕ
+abbrev pub listOf : EitherCall → List ℕ
 listOf (inListMode c) = c .list
 listOf (inSignatureMode c) = selectedList (signatureMode.selection c)
 
-abbrev pub roomOf : Call → ℕ
+abbrev pub roomOf : EitherCall → ℕ
 roomOf (inListMode c) = c .room
 roomOf (inSignatureMode c) = c .room
 
-abbrev pub resultOf : Call → Result
+abbrev pub resultOf : EitherCall → Result
 resultOf (inListMode c) = listMode.result c
 resultOf (inSignatureMode c) = signatureMode.result c
 
 -- ---- every answer
 
--- 17 cannot come: a UN that would be written inside a listed sequence makes 15 come before, and such sequences are left out of the signature item's own.
+-- 17 cannot come: a UN that would be written inside a listed sequence makes 15 come before, and such sequences are left out of the
+-- signature item's own.
 abbrev pub Never17 : Type 0
-Never17 = (c : Call) → resultOf c .answer .number ≢ 17
+Never17 = (c : EitherCall) → resultOf c .answer .number ≢ 17
 
--- "Positions: 2 to 8 an offset in the data set; 11 to 15 an index into the list from 0 ..; others 0." An offset may be the data set's length, where a header is missing.
+-- the highest number of either mode
+abbrev pub highest : EitherCall → ℕ
+highest (inListMode c) = 16
+highest (inSignatureMode c) = 23
+
+-- the numbers that can come; 17 never does (`Never17`); 9 comes in a check only
+pub record Numbers : Type 0 where
+  pub most : (c : EitherCall) → resultOf c .answer .number ≤ highest c
+  pub of-stream : (c : EitherCall) → resultOf c .expected ≡ Opt.none → resultOf c .answer .number ≢ 9
+
+-- "Positions: 2 to 8 an offset in the data set; 11 to 15 an index into the list from 0 ..; others 0." An offset may be the data set's
+-- length, where a header is missing.
 pub record Positioned (size count : ℕ) (a : Answer) : Type 0 where
   pub offset : 2 ≤ a .number → a .number ≤ 8 → a .position ≤ size
   pub index : 11 ≤ a .number → a .number ≤ 15 → a .position < count
@@ -65,9 +79,10 @@ pub record Positioned (size count : ℕ) (a : Answer) : Type 0 where
   pub above15 : 15 < a .number → a .position ≡ 0
 
 abbrev pub Positions : Type 0
-Positions = (c : Call) → Positioned (length (setOf c)) (length (tagsIn (listOf c))) (resultOf c .answer)
+Positions = (c : EitherCall) → Positioned (length (setOf c)) (length (tagsIn (listOf c))) (resultOf c .answer)
 
--- "For 0 the position is 0 and the first length bytes of the output are the stream; later bytes are untouched." The output keeps its length.
+-- "For 0 the position is 0 and the first length bytes of the output are the stream; later bytes are untouched." The output keeps its
+-- length.
 pub record StreamIn (c : Result) (out : List ℕ) : Type 0 where
   pub answers : c .answer ≡ accepted (length (c .stream))
   pub first : take (c .answer .length) (outputAfter c out) ≡ c .stream
@@ -75,7 +90,7 @@ pub record StreamIn (c : Result) (out : List ℕ) : Type 0 where
   pub room : length (outputAfter c out) ≡ length out
 
 abbrev pub AcceptedOutput : Type 0
-AcceptedOutput = (c : Call) (out : List ℕ) → isAccepted (resultOf c) ≡ true → roomOf c ≡ length out → StreamIn (resultOf c) out
+AcceptedOutput = (c : EitherCall) (out : List ℕ) → isAccepted (resultOf c) ≡ true → roomOf c ≡ length out → StreamIn (resultOf c) out
 
 -- "A refusal has length 0 and touches no output byte."
 pub record NothingIn (c : Result) (out : List ℕ) : Type 0 where
@@ -83,32 +98,36 @@ pub record NothingIn (c : Result) (out : List ℕ) : Type 0 where
   pub untouched : outputAfter c out ≡ out
 
 abbrev pub RefusedOutput : Type 0
-RefusedOutput = (c : Call) (out : List ℕ) → isAccepted (resultOf c) ≡ false → NothingIn (resultOf c) out
+RefusedOutput = (c : EitherCall) (out : List ℕ) → isAccepted (resultOf c) ≡ false → NothingIn (resultOf c) out
 
--- A check with the expected digest e says "same" exactly when it is accepted and the digest of its stream equals e, "differs" exactly when it is
--- accepted and the digest is another, and neither exactly when it is refused.
+-- A check with the expected digest e says "same" exactly when it is accepted and the digest of its stream equals e, "differs" exactly when
+-- it is accepted and the digest is another, and neither exactly when it is refused.
 pub record Says (c : Result) (e : List ℕ) : Type 0 where
   pub same : (verdictOf c ≡ verdict.Same) ↔ ((isAccepted c ≡ true) × (digestOf sha256 (c .stream) ≡ e))
   pub differs : (verdictOf c ≡ verdict.Differs) ↔ ((isAccepted c ≡ true) × (digestOf sha256 (c .stream) ≢ e))
   pub neither : (verdictOf c ≡ verdict.Neither) ↔ (isAccepted c ≡ false)
 
 abbrev pub VerdictExact : Type 0
-VerdictExact = (c : Call) (e : List ℕ) → resultOf c .expected ≡ some e → Says (resultOf c) e
+VerdictExact = (c : EitherCall) (e : List ℕ) → resultOf c .expected ≡ some e → Says (resultOf c) e
 
--- ---- "The stream is never longer than the data set"
+-- a check with an expected digest of 32 bytes answers as the call for the stream does
+pub record ChecksAsStream : Type 0 where
+  pub of-list : (list set expected work : List ℕ) → length expected ≡ 32
+      → listMode.answer (listMode.checkCall list set expected work) ≡ listMode.answer (listMode.streamCall list set work)
+  pub of-signature : (uid : List ℕ) (which : Signature) (set expected work : List ℕ) → length expected ≡ 32
+      → signatureMode.answer (signatureMode.checkCall uid which set expected work)
+      ≡ signatureMode.answer (signatureMode.streamCall uid which set work)
 
--- wherever the list is not refused, so in every accepted call; in signature mode, where a list is selected
-abbrev pub ListNeverLonger : Type 0
-ListNeverLonger = (c : listMode.Call) → listAnswer (c .list) .number ≡ 0 → length (listMode.stream c) ≤ length (c .set)
+-- ---- the length of the stream
 
-abbrev pub SignatureNeverLonger : Type 0
-SignatureNeverLonger =
-    (c : signatureMode.Call) (list : List ℕ) (item : Elements) → signatureMode.selection c ≡ selected list item → listAnswer list .number ≡ 0
-    → length (signatureMode.stream c) ≤ length (c .set)
+-- "The stream is never longer than the data set.": wherever a list is there and not refused, so in every accepted call (where nothing is
+-- selected the list is empty, so 10)
+abbrev pub NeverLonger : Type 0
+NeverLonger = (c : EitherCall) → listAnswer (listOf c) .number ≡ 0 → length (resultOf c .stream) ≤ length (setOf c)
 
 -- so an output as long as the data set is always enough
 abbrev pub EnoughRoom : Type 0
-EnoughRoom = (c : Call) → length (setOf c) ≤ roomOf c → resultOf c .answer .number ≢ 16
+EnoughRoom = (c : EitherCall) → length (setOf c) ≤ roomOf c → resultOf c .answer .number ≢ 16
 
 -- ---- signature mode and list mode
 
@@ -116,24 +135,27 @@ EnoughRoom = (c : Call) → length (setOf c) ≤ roomOf c → resultOf c .answer
 abbrev pub asList : signatureMode.Call → (list : List ℕ) → listMode.Call
 asList c list = record { list = list; set = c .set; room = c .room; expected = c .expected }
 
--- The stream is list mode's for the list that is selected, and after it the signature item's own elements. "10, 11, 12, and on as before": where list mode refuses, signature mode
--- gives the same answer; else only 16 can come, for the whole stream.
+-- The stream is list mode's for the list that is selected, and after it the signature item's own elements. "10, 11, 12, and on as before":
+-- where list mode refuses, signature mode gives the same answer; else only 16 can come, for the whole stream.
 pub record ListsFirst (c : signatureMode.Call) (list : List ℕ) (item : Elements) : Type 0 where
   pub streams : signatureMode.stream c ≡ listMode.stream (asList c list) ++ elementsStream (own item) (c .set)
   pub answers : signatureMode.answer c
-      ≡ (listMode.answer (asList c list) orElse (if ltb (c .room) (length (signatureMode.stream c)) then refused 16 0 else accepted (length (signatureMode.stream c))))
+      ≡ (listMode.answer (asList c list)
+      orElse (if ltb (c .room) (length (signatureMode.stream c)) then refused 16 0 else accepted (length (signatureMode.stream c))))
 
 abbrev pub SignatureStream : Type 0
-SignatureStream = (c : signatureMode.Call) (list : List ℕ) (item : Elements) → signatureMode.selection c ≡ selected list item → ListsFirst c list item
+SignatureStream =
+    (c : signatureMode.Call) (list : List ℕ) (item : Elements) → signatureMode.selection c ≡ selected list item → ListsFirst c list item
 
 -- all of them
 pub record Theorems : Type 0 where
   pub never-17 : Never17
+  pub numbers : Numbers
   pub positions : Positions
   pub accepted-output : AcceptedOutput
   pub refused-output : RefusedOutput
   pub verdict-exact : VerdictExact
-  pub list-never-longer : ListNeverLonger
-  pub signature-never-longer : SignatureNeverLonger
+  pub checks-as-stream : ChecksAsStream
+  pub never-longer : NeverLonger
   pub enough-room : EnoughRoom
   pub signature-stream : SignatureStream

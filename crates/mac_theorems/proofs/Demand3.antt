@@ -1,4 +1,4 @@
--- Demand 3, as specs/Injectivity.antt states it. Assumes nothing.
+-- Demand 3, as specs/Demand3.antt states it. Assumes nothing.
 use Prim.Native.Nat.{ℕ}
 use mathlib.Core.Path.{_≡_, refl, sym, ap, ap₂, _∙_}
 use mathlib.Core.Logic.{_≢_}
@@ -16,6 +16,7 @@ use Rattle.answer.specs.Answer.{_orElse_}
 use Rattle.dataset.proofs.Guarantees.{DataSetIs, data-set-read}
 use Rattle.digest.specs.Message.{digestOf}
 use Rattle.digest.specs.Sha256.{sha256}
+use Rattle.dataset.specs.Bytes.{OfBytes}
 use Rattle.dataset.proofs.Theorems.{well-formed-accepted, accepted-well-formed}
 use Rattle.dataset.specs.Reading.{answerOf, tree}
 use Rattle.mac.specs.TagList.{tagsIn, listAnswer}
@@ -26,7 +27,7 @@ use Rattle.mac.specs.Result.{compared, isAccepted, verdictOf}
 use Rattle.mac.specs.ListMode.{Call, contentOf, stream, answer, streamCall, result}
 use Rattle.mac.specs.declared.verdict.Checked.{Checked}
 use Rattle.mac.specs.declared.verdict.Verdict.the-variants as verdict
-use Rattle.mac_theorems.specs.Injectivity.{Bytes, Accepted, signedInFragments, on, FirstHalf, SecondHalf, Run, written, FirstHalfOfCalls, SecondHalfOfCalls, StreamRuns, CheckRuns, listedHoldUN, SameResult, AcceptedSigns, Demand3}
+use Rattle.mac_theorems.specs.Demand3.{Accepted, signedInFragments, on, FirstHalf, SecondHalf, Run, written, FirstHalfOfCalls, SecondHalfOfCalls, StreamRuns, CheckRuns, listedHoldUN, SameResult, AcceptedHasContent, Demand3}
 use Rattle.mac_theorems.proofs.Encoding.{encodeElements}
 use Rattle.mac_theorems.proofs.Decoding.{ElementsDecodable, injective}
 use Rattle.mac_theorems.proofs.Decodable.{WithinSize}
@@ -37,7 +38,7 @@ use Rattle.mac_theorems.proofs.Outputs.{output-stream}
 use Rattle.mac_theorems.proofs.Acceptance.{IsRead, is-read, Accepts, accepts, answer-read, answer-accepted}
 
 -- ---- the stream of a call is the encoding of its signed content
-module _ (c : Call) (b : Bytes (c .set)) (r : IsRead (c .set)) (row : SignedElements) (is : contentOf c ≡ some row) where
+module _ (c : Call) (b : OfBytes (c .set)) (r : IsRead (c .set)) (row : SignedElements) (is : contentOf c ≡ some row) where
   placed : DataSetIs (c .set) (tree (c .set)) (r .next)
   placed = data-set-read (c .set) (tree (c .set)) (r .next) (r .is)
 
@@ -190,11 +191,11 @@ second-half-of-calls c s out out′ after after′ r r′ u u′ b b′ g g′ s
         let n = eqb-false (r .answer .number) 0 e in
         nothing (on c s) r′ out′ after′ u′ (λ z. n (ap (λ (x : Answer). x .number) (sym q) ∙ z)) ∙ sym (nothing c r out after u n)
 
-accepted-signs : AcceptedSigns
+accepted-has-content : AcceptedHasContent
 unfolding contentOf
-accepted-signs c h =
-    let a = accepts c (eqb-true (answer c .number) 0 h) in
-    let r = has-content (tagsIn (c .list)) 0 (tree (c .set)) (c .set) (a .from13 .found) in
+accepted-has-content c h =
+    let a = accepts c (number-0 c h) in
+    let r = call-has-content c a in
     record {
       wellFormed = accepted-well-formed (c .set) (ap answerOf (a .read .is));
       holds = λ e. let z : _≡_ {A = ℕ} 0 1 = cc (r .is, e) in omega arith;
@@ -210,5 +211,5 @@ demand-3 =
       check-runs = checked-run;
       first-half-of-calls = first-half-of-calls;
       second-half-of-calls = second-half-of-calls;
-      accepted-signs = accepted-signs;
+      accepted-has-content = accepted-has-content;
     }

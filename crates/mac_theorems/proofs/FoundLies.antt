@@ -1,4 +1,4 @@
--- What the search of a top-level tag finds: an element of the data set, after which the later tags stand. Assumes nothing.
+-- An element that is found under a tag lies in the data set, and the elements of later tags lie after it. Assumes nothing.
 use Prim.Native.Nat.{ℕ, _+_, _≤_, _<_}
 use mathlib.Core.Path.{_≡_, refl, _∙_, subst}
 use mathlib.Core.Bool.{Bool, true, false, true≢false}
@@ -6,12 +6,13 @@ use mathlib.Core.List.{List}
 use mathlib.Core.Option.{some}
 use native.Mathlib.Omega.{arith}
 use lib.Dec.{eqb}
-use borrow.Author.Tests.{eqb-true, ne-eqb}
+use borrow.Author.Tests.{eqb-true}
 use Rattle.answer.specs.If.{if_then_else_}
 use Rattle.dataset.specs.Tree.{Element, Elements, tagOf}
 use Rattle.dataset.proofs.Lies.{ElementLies, ElementsLie}
 use Rattle.dataset.specs.Lookup.{elementOf}
 use Rattle.dataset.proofs.Order.{element-ends}
+use Rattle.mac.proofs.Finding.{find-past}
 
 -- the element e of the tag, from `from` to `mid`, and the elements after it
 pub record FoundAt (tag : ℕ) (es : Elements) (d : List ℕ) (left floor at next : ℕ) (e : Element) : Type 0 where
@@ -23,11 +24,6 @@ pub record FoundAt (tag : ℕ) (es : Elements) (d : List ℕ) (left floor at nex
   pub lies : ElementLies e d left from mid
   pub follow : ElementsLie rest d left (tag + 1) mid next
   pub later : (t : ℕ) → tag < t → elementOf t es ≡ elementOf t rest
-
--- an element of another tag is passed over
-pass : (k : Element) (es : Elements) (t : ℕ) → tagOf k < t → elementOf t (Elements.and k es) ≡ elementOf t es
-unfolding elementOf if_then_else_
-pass k es t h = rw (ne-eqb (tagOf k) t (λ q. let z : ⊥ = omega arith in z))
 
 pub found-at : (tag : ℕ) (es : Elements) (d : List ℕ) (left floor at next : ℕ) → ElementsLie es d left floor at next → (e : Element) → elementOf tag es ≡ some e
     → FoundAt tag es d left floor at next e
@@ -48,7 +44,7 @@ found-at tag (Elements.and k es) d left floor at next r e h = go (eqb (tagOf k) 
           order = omega arith;
           lies = subst (λ (z : Element). ElementLies z d left at (r .0)) q (r .2);
           follow = subst (λ (n : ℕ). ElementsLie es d left (n + 1) (r .0) next) t (r .3);
-          later = λ u l. pass k es u (omega arith);
+          later = λ u l. find-past u k es (omega arith);
         }
     go false b f more =
         let m = more f in
@@ -61,5 +57,5 @@ found-at tag (Elements.and k es) d left floor at next r e h = go (eqb (tagOf k) 
           order = omega (arith, n .header, m .order);
           lies = m .lies;
           follow = m .follow;
-          later = λ u l. pass k es u (omega (arith, m .above)) ∙ m .later u l;
+          later = λ u l. find-past u k es (omega (arith, m .above)) ∙ m .later u l;
         }

@@ -1,4 +1,4 @@
--- The stream of a list whose tags ascend is never longer than the elements of the data set. Assumes nothing.
+-- List mode: the stream of a list whose tags ascend is no longer than the data set. Assumes nothing.
 use Prim.Native.Nat.{ℕ, _+_, _≤_}
 use mathlib.Core.Path.{_≡_, refl, _∙_}
 use mathlib.Core.Bool.{Bool, true, false}
@@ -11,14 +11,18 @@ use lib.ListN.{length, length-append}
 use borrow.Author.Tests.{ltb-false}
 use Rattle.answer.specs.If.{if_then_else_}
 use Rattle.answer.specs.Answer.{refused}
+use Rattle.answer.proofs.Chain.{BothAccepted, both-accepted}
 use Rattle.dataset.specs.Tree.{Element, Elements}
 use Rattle.dataset.proofs.Lies.{ElementsLie}
+use Rattle.dataset.specs.Reading.{Reading, levels, dataSet, treeOf}
 use Rattle.dataset.specs.Lookup.{elementOf}
+use Rattle.dataset.proofs.Guarantees.{data-set-read}
 use Rattle.dataset.proofs.Order.{elements-end}
-use Rattle.mac.specs.TagList.{ascendingAnswer}
+use Rattle.mac.specs.TagList.{tagsIn, ascendingAnswer, unbarredAnswer, listAnswer}
 use Rattle.mac.specs.Stream.{streamOf, foundStream, listedStream}
+use Rattle.mac.specs.ListMode.{Call, stream}
 use Rattle.mac.proofs.StreamLength.{element-length}
-use Rattle.mac_theorems.proofs.Found.{found-at}
+use Rattle.mac_theorems.proofs.FoundLies.{found-at}
 
 pub record Ascends (index least tag : ℕ) (tags : List ℕ) : Type 0 where
   pub first : least ≤ tag
@@ -57,3 +61,26 @@ module _ (d : List ℕ) (left next : ℕ) (es : Elements) where
   listed-no-longer index least (tag ∷ tags) a rest floor at f r =
       let p = ascends index least tag tags a in
       one-no-longer least tag tags (p .first) (λ rest floor at f r. listed-no-longer (index + 1) (tag + 1) tags (p .rest) rest floor at f r) rest floor at f r
+
+-- ---- of a whole data set
+
+-- the tags of a list that is not refused ascend, and none is barred
+pub list-accepts : (list : List ℕ) → listAnswer list .number ≡ 0 → BothAccepted (ascendingAnswer 0 0 (tagsIn list)) (unbarredAnswer 0 (tagsIn list))
+unfolding listAnswer
+list-accepts list h = both-accepted _ _ (both-accepted _ _ h .second)
+
+-- a refused data set has no elements
+module _ (d tags : List ℕ) (a : ascendingAnswer 0 0 tags .number ≡ 0) where
+  pub tree-no-longer : (r : Reading Elements) → dataSet d ≡ r → length (listedStream tags (treeOf r) d) ≤ length d
+  unfolding ElementsLie
+  tree-no-longer (Reading.fault f) e =
+      let h = listed-no-longer d levels 0 Elements.none 0 0 tags a Elements.none 0 0 (λ t k. refl) record { order = omega arith; inside = omega arith; even = omega arith } in
+      omega arith
+  tree-no-longer (Reading.read es n) e =
+      let p = data-set-read d es n e in
+      let h = listed-no-longer d levels n es 0 0 tags a es 0 0 (λ t k. refl) (p .tree) in
+      omega (arith, p .whole)
+
+pub list-never-longer : (c : Call) → listAnswer (c .list) .number ≡ 0 → length (stream c) ≤ length (c .set)
+unfolding stream
+list-never-longer c h = tree-no-longer (c .set) (tagsIn (c .list)) (list-accepts (c .list) h .first) (dataSet (c .set)) refl
