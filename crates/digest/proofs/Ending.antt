@@ -10,8 +10,9 @@ use lib.Dec.{ltb}
 use lib.ListN.{length, set, take, replicate, length-append, length-replicate}
 use lib.Seq.{paste, take-paste, take-length, take-all, take-append-add, set-append-seam}
 use Rattle.answer.specs.If.{if_then_else_}
-use Rattle.digest.specs.Padding.{zerosAfter}
+use Rattle.digest.specs.Padding.{ByteOrder, bytesOf, zerosAfter, padding}
 use Rattle.digest.specs.Theorems.{FewestZeros}
+use Rattle.digest.proofs.Tables.{length-tabulate}
 use Rattle.digest.proofs.Zeros.{drop-replicate, take-replicate}
 
 -- w, then the byte x, then zeros, then the eight bytes of `bits`, n bytes in all: the stores that make it
@@ -42,9 +43,14 @@ ending-stores w bits b₁ b₂ x n c lw ls h l e₁ e₂ =
     ∙ ap (λ (k : ℕ). paste (set (paste (replicate 128 0) 0 w (length w)) k x) (n - 8) bits 8) (sym lw))
     ∙ ending-at w bits x n ls (omega arith) l ∙ ap (λ (k : ℕ). w ++ (x ∷ (replicate (n - 9 - k) 0 ++ bits))) lw
 
+-- the byte 0x80, the zeros and the eight bytes of the length
+length-padding : (order : ByteOrder) (n : ℕ) → length (padding order n) ≡ zerosAfter n + 9
+unfolding padding bytesOf
+length-padding order n = simp (length-append, length-replicate, length-tabulate) (omega arith)
+
 -- FIPS 180-4, 5.1.1
 pub fewest-zeros : (n : ℕ) → FewestZeros n
-fewest-zeros n = record { solves = omega arith; smallest = λ k e. omega arith }
+fewest-zeros n = record { solves = omega arith; smallest = λ k e. omega arith; whole = λ order. omega (arith, length-padding order n) }
 
 -- ---- one block or two
 -- n bytes hold the waiting bytes, the byte 0x80 and the length, and the zeros between are those of the padding

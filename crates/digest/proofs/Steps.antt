@@ -11,7 +11,7 @@ use lib.ListN.{length, take, drop, replicate, length-append, length-drop, take-a
 use lib.Seq.{paste, take-length, take-all, length-take-le}
 use Rattle.digest.specs.Message.{Algorithm, afterBlocks, rest, limit}
 use Rattle.digest.specs.Running.{waitingBytes, allZero, possible, accepts, zeroFilled, fed}
-use Rattle.digest.specs.Ready.{Ready}
+use Rattle.digest.specs.Inner.Ready.{Ready}
 use Rattle.digest.specs.declared.running.Running.{Running}
 use Rattle.digest.proofs.Chain.{afterBlocks-more, afterBlocks-few, rest-more, rest-few, rest-one, length-rest}
 use Rattle.digest.proofs.Tests.{and-left, and-right}

@@ -5,7 +5,7 @@ use lib.Bits.{bitAnd, bitOr, bitXor}
 
 -- 2.2.2: x << n, without the bits that leave the word
 abbrev pub shl : ℕ → ℕ → ℕ
-shl n x = x * 2 ^ n % 2 ^ 32
+shl n x = (x * 2 ^ n) % 2 ^ 32
 
 -- 3.2: SHR^n(x) = x >> n
 abbrev pub shr : ℕ → ℕ → ℕ

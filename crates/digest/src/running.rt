@@ -10,7 +10,7 @@ ghost use lib.Seq.{paste};
 ghost use Rattle.digest.specs.Message.{rest};
 ghost use Rattle.digest.specs.Sha256 as Sha256;
 ghost use Rattle.digest.specs.Running as Spec;
-ghost use Rattle.digest.specs.Ready.{Ready};
+ghost use Rattle.digest.specs.Inner.Ready.{Ready};
 
 // The most bytes of a message, 2^61 - 1: their bits are counted in 64 bits.
 const LIMIT: u64 = 2305843009213693951;
