@@ -4,7 +4,7 @@ pub mod Tests
 pub mod Constants
 pub mod Chain
 pub mod Zeros
-pub mod Ending
+pub mod Padded
 pub mod Steps
 pub mod Feeding
 pub mod Answers

@@ -47,10 +47,10 @@ pub part-to-end : (m : List ℕ) (i : ℕ) → take (length m - i) (drop i m) �
 part-to-end m i = take-all (length m - i) (drop i m) (simp length-drop (omega arith))
 
 -- what is left, in an array of zeros
-pub kept-rest : (m p : List ℕ) (from : ℕ) → from ≡ length m - length m % 64 → p ≡ take (length m - from) (drop from m)
+pub rest-in-zeros : (m p : List ℕ) (from : ℕ) → from ≡ length m - length m % 64 → p ≡ take (length m - from) (drop from m)
     → paste (replicate 64 0) 0 p (length p) ≡ zeroFilled (rest m)
 unfolding rest
-kept-rest m p from e q =
+rest-in-zeros m p from e q =
     let f : from ≡ 64 * (length m / 64) = omega arith in
     let n : 64 - (0 + length p) ≡ 64 - length p = omega arith in
     paste-whole (replicate 64 0) p 0

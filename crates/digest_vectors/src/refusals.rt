@@ -1,9 +1,7 @@
 // Every kind of 25, and the neighbour that is accepted.
 use crate::print;
+use digest::running::LIMIT;
 use digest::running::Running;
-
-// The most bytes that a running digest takes.
-const LIMIT: u64 = 2305843009213693951;
 
 // Byte i of the waiting bytes: `count` letters, `after` behind them, and zeros.
 fn byte(i: usize, count: usize, after: u8) -> u8 {
@@ -54,7 +52,7 @@ fn same(a: Running, b: Running) -> bool {
     a.total == b.total
 }
 
-fn kept(a: Running, b: Running) {
+fn print_kept(a: Running, b: Running) {
     if same(a, b) {
         print::text(b"kept");
     } else {
@@ -70,7 +68,7 @@ fn run_finish(name: &[u8], s: Running) {
     print::text(name);
     print::text(b"finish");
     print::answer(answer);
-    kept(s, back);
+    print_kept(s, back);
     print::digest(digest);
 }
 
@@ -85,7 +83,7 @@ fn run_feed(name: &[u8], s: Running, bytes: &[u8]) {
     print::text(b"feed");
     print::decimal(bytes.len());
     print::answer(answer);
-    kept(s, next);
+    print_kept(s, next);
     print::decimal(next.count);
     print::digest(digest);
 }

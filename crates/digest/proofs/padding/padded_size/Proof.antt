@@ -2,8 +2,8 @@ use borrow.Author.Tests.{lt-ltb, le-ltb}
 use Rattle.answer.specs.If.{if_then_else_}
 use borrow.Author.Needs.{needs}
 use Prim.Native.Nat.{ℕ, _+_, _-_, _*_, _<_, _≤_}
-use Rattle.digest.proofs.padding.ending_size.Statement.{statement}
-use Rattle.digest.proofs.padding.ending_size.Tie as tie
+use Rattle.digest.proofs.padding.padded_size.Statement.{statement}
+use Rattle.digest.proofs.padding.padded_size.Tie as tie
 
 returns : tie.Need-returns
 unfolding if_then_else_
@@ -13,5 +13,5 @@ returns-2 : tie.Need-returns-2
 unfolding if_then_else_
 returns-2 c = simp (le-ltb _ _ (c .if1 .left))
 
-pub ending-size-spec : {M : Type 1} → statement M
-ending-size-spec = tie.close (tie.spec returns returns-2)
+pub padded-size-spec : {M : Type 1} → statement M
+padded-size-spec = tie.close (tie.spec returns returns-2)
