@@ -1,4 +1,4 @@
--- Feeding in parts, for any block function: what is afterBlocks and what is left do not depend on how the message is cut.
+-- Feeding in parts, for any block function: the words after the blocks and the bytes left do not depend on how the message is cut.
 -- Assumes nothing.
 use Prim.Native.Nat.{ℕ, zero, suc, _+_, _-_, _*_, _/_, _%_, _<_, _≤_}
 use mathlib.Core.Path.{_≡_, refl, sym, ap, ap₂, _∙_}

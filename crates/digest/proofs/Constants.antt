@@ -1,4 +1,4 @@
--- The tables of constants keep the rule of FIPS 180-4: one computed test a table, and a law that turns the test into the rule at each entry.
+-- The tables of constants keep the rule of FIPS 180-4: one computed test a table, and a law that makes of the test the rule at each entry.
 -- Assumes nothing.
 use Prim.Native.Nat.{ℕ, zero, suc, _+_, _*_, _^_, _<_}
 use mathlib.Core.Path.{_≡_, refl}

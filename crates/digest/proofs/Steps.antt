@@ -1,4 +1,4 @@
--- What the code does with the array of waiting bytes is what `fed` says, for any algorithm.
+-- The code's test is `accepts`, and what the code does with the array of waiting bytes is what `fed` says, for any algorithm.
 -- Assumes nothing.
 use Prim.Native.Nat.{ℕ, _+_, _-_, _*_, _/_, _%_, _<_, _≤_}
 use mathlib.Core.Path.{_≡_, sym, ap, ap₂, _∙_}
