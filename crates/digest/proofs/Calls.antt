@@ -1,9 +1,8 @@
 -- What calls give one after the other: the digest of all bytes so far, from the start and from any possible running digest.
 -- Assumes nothing.
-use Rattle.answer.specs.If.{if_then_else_}
 use Prim.Native.Nat.{ℕ, _+_, _<_, _≤_}
 use mathlib.Core.Path.{_≡_, refl, sym, ap, _∙_}
-use mathlib.Core.Bool.{Bool, true, false}
+use mathlib.Core.Bool.{Bool, true, false, and-eq-true-iff}
 use mathlib.Core.List.{List, [], _∷_, _++_, flatten}
 use native.Mathlib.Nat.{zero-add}
 use native.Mathlib.Omega.{arith}
@@ -12,7 +11,7 @@ use lib.Dec.{leb}
 use lib.ListN.{length, replicate, length-append, length-replicate}
 use lib.Seq.{paste-zero}
 use Rattle.answer.specs.Answer.{accepted, refused}
-use Rattle.digest.specs.Message.{Algorithm, digestOf, limit, hashing}
+use Rattle.digest.specs.Message.{Algorithm, limit, hashing}
 use Rattle.digest.specs.Running.{allZero, possible, accepts, start, fed, finished, feeding, finishing}
 use Rattle.digest.specs.Theorems.{afterCalls, CallsFromStart, CallsFrom}
 use Rattle.digest.specs.declared.running.Running.{Running}
@@ -21,7 +20,6 @@ use Rattle.digest.specs.declared.running.Finished.{Finished}
 use Rattle.digest.specs.declared.message.Hashed.{Hashed}
 use Rattle.digest.proofs.Chain.{length-rest}
 use Rattle.digest.proofs.Steps.{ready, accepts-within, accepts-past, fed-few}
-use Rattle.digest.proofs.Tests.{and-left}
 use Rattle.digest.proofs.Feeding.{two-feedings, digest-so-far, accepts-fed}
 use Rattle.digest.proofs.Answers.{feeding-accepted, feeding-refused, finishing-accepted, hashing-accepted, hashing-refused}
 
@@ -30,7 +28,7 @@ accepts-fewer : (s : Running) (n k : ℕ) → k ≤ n → accepts s n ≡ true �
 unfolding accepts
 accepts-fewer s n k h e =
     let r = ready s n e in
-    sym (accepts-within s k true (omega arith) (sym (and-left (possible s) (leb (s .total + n) limit) e)))
+    sym (accepts-within s k true (omega arith) (sym (and-eq-true-iff _ _ .0 e .0)))
 
 accepts-start : (a : Algorithm) (n : ℕ) → accepts (start a) n ≡ leb n limit
 unfolding accepts possible start allZero

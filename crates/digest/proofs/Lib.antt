@@ -1,6 +1,5 @@
 pub mod Tables
 pub mod Rounds
-pub mod Tests
 pub mod Constants
 pub mod Chain
 pub mod Zeros

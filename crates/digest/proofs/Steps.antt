@@ -2,32 +2,26 @@
 -- Assumes nothing.
 use Prim.Native.Nat.{ℕ, _+_, _-_, _*_, _/_, _%_, _<_, _≤_}
 use mathlib.Core.Path.{_≡_, sym, ap, ap₂, _∙_}
-use mathlib.Core.Bool.{Bool, true, false, _&&_, and-true, and-false}
+use mathlib.Core.Bool.{Bool, true, false, _&&_, and-true, and-false, and-eq-true-iff}
 use mathlib.Core.List.{List, [], _++_, append-assoc, append-nil}
 use native.Mathlib.Omega.{arith}
 use borrow.Author.Tests.{eqb-true, leb-true, le-leb, lt-leb}
-use lib.Dec.{eqb, leb}
 use lib.ListN.{length, take, drop, replicate, length-append, length-drop, take-append-drop, drop-of-length-le}
 use lib.Seq.{paste, take-length, take-all, length-take-le}
 use Rattle.digest.specs.Message.{Algorithm, afterBlocks, rest, limit}
-use Rattle.digest.specs.Running.{waitingBytes, allZero, possible, accepts, zeroFilled, fed}
+use Rattle.digest.specs.Running.{waitingBytes, possible, accepts, zeroFilled, fed}
 use Rattle.digest.specs.Inner.Ready.{Ready}
 use Rattle.digest.specs.declared.running.Running.{Running}
 use Rattle.digest.proofs.Chain.{afterBlocks-more, afterBlocks-few, rest-more, rest-few, rest-one, length-rest}
-use Rattle.digest.proofs.Tests.{and-left, and-right}
 use Rattle.digest.proofs.Zeros.{zeros-after, drop-replicate}
 
 -- the test gives the facts
 pub ready : (s : Running) (n : ℕ) → accepts s n ≡ true → Ready s n
 unfolding accepts possible
 ready s n e =
-    let p = and-left (possible s) (leb (s .total + n) limit) e in
-    let l : s .total + n ≤ limit = leb-true _ _ (and-right (possible s) (leb (s .total + n) limit) e) in
-    record {
-      counted = eqb-true (s .count) (s .total % 64) (and-left (eqb (s .count) (s .total % 64)) (allZero (drop (s .count) (s .waiting))) p);
-      empty = and-right (eqb (s .count) (s .total % 64)) (allZero (drop (s .count) (s .waiting))) p;
-      within = omega arith;
-    }
+    let tests = and-eq-true-iff _ _ .0 e in
+    let possible = and-eq-true-iff _ _ .0 (tests .0) in
+    record { counted = eqb-true _ _ (possible .0); empty = possible .1; within = leb-true _ _ (tests .1) }
 
 -- the test, as the code makes it: the limit first
 pub accepts-within : (s : Running) (n : ℕ) (t : Bool) → s .total + n ≤ limit → t ≡ possible s → t ≡ accepts s n

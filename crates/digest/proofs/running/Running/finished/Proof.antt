@@ -9,7 +9,6 @@ use Rattle.digest.specs.Message.{afterBlocks}
 use Rattle.digest.specs.Sha256.{compressed}
 use Rattle.digest.specs.Running.{finished, waitingBytes}
 use Rattle.digest.proofs.Padded.{Fills, fills}
-use Prim.Native.Nat.{ℕ, _+_, _-_, _*_, _<_, _≤_}
 use borrow.Author.Needs.{needs}
 use Rattle.digest.proofs.running.Running.finished.Statement.{statement}
 use Rattle.digest.proofs.running.Running.finished.Tie as tie
