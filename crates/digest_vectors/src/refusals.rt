@@ -93,13 +93,18 @@ fn run_one(name: &[u8], s: Running, bytes: &[u8]) {
     run_feed(name, s, bytes);
 }
 
-pub(crate) fn run() {
+// Running digests that are not possible ones.
+fn run_possible() {
     run_one(b"possible", state(3, 0, 3), b"bbbbb");
     run_one(b"possible-after-blocks", state(63, 0, 191), &[0x62u8; 200]);
     run_one(b"count-above-total", state(1, 0, 0), b"b");
     run_one(b"count-below-total", state(2, 0, 3), b"b");
     run_one(b"count-of-a-block", state(64, 0, 64), b"b");
     run_one(b"byte-past-the-waiting", state(3, 1, 3), b"b");
+}
+
+// Totals past the limit, also after the feeding asked for.
+fn run_totals() {
     run_one(b"total-at-the-limit", state(63, 0, LIMIT), b"");
     run_one(
         b"total-at-the-limit-and-one-more",
@@ -110,4 +115,9 @@ pub(crate) fn run() {
     run_one(b"largest-total", state(63, 0, 18446744073709551615), b"b");
     run_one(b"feeding-to-the-limit", state(62, 0, LIMIT - 1), b"b");
     run_one(b"feeding-past-the-limit", state(62, 0, LIMIT - 1), b"bb");
+}
+
+pub(crate) fn run() {
+    run_possible();
+    run_totals();
 }
