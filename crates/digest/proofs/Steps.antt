@@ -36,6 +36,10 @@ accepts-past s n h = sym (ap (λ (b : Bool). possible s && b) (lt-leb (s .total 
 pub paste-whole : (d s : List ℕ) (i : ℕ) → paste d i s (length s) ≡ (take i d ++ s) ++ drop (i + length s) d
 paste-whole d s i = ap (λ (l : List ℕ). (take i d ++ l) ++ drop (i + length s) d) (take-length s)
 
+-- the waiting bytes with m after them
+pub length-waiting : (s : Running) (m : List ℕ) → s .count ≤ length (s .waiting) → length (waitingBytes s ++ m) ≡ s .count + length m
+length-waiting s m h = length-append (waitingBytes s) m ∙ ap (λ (k : ℕ). k + length m) (length-take-le (s .count) (s .waiting) h)
+
 -- a part that goes to the end
 pub part-to-end : (m : List ℕ) (i : ℕ) → take (length m - i) (drop i m) ≡ drop i m
 part-to-end m i = take-all (length m - i) (drop i m) (simp length-drop (omega arith))
@@ -58,7 +62,7 @@ module _ (a : Algorithm) (s : Running) (m : List ℕ) (l : length (s .waiting) �
   unfolding fed
   fed-few w r h e =
       let all = waitingBytes s ++ m in
-      let n : length all ≡ s .count + length m = length-append (waitingBytes s) m ∙ ap (λ (k : ℕ). k + length m) (length-take-le (s .count) (s .waiting) (omega arith)) in
+      let n = length-waiting s m (omega arith) in
       let re : all ≡ rest all = sym (rest-few all (omega arith)) in
       let k : length (s .waiting) - (s .count + length m) ≡ 64 - length all = omega arith in
       let z : drop (s .count + length m) (s .waiting) ≡ replicate (64 - length all) 0 =
@@ -80,8 +84,7 @@ module _ (a : Algorithm) (s : Running) (m : List ℕ) (l : length (s .waiting) �
       let F = waitingBytes s ++ take r m in
       let all = waitingBytes s ++ m in
       let n : length (take r m) ≡ r = length-take-le r m (omega arith) in
-      let nF : length F ≡ 64 =
-      length-append (waitingBytes s) (take r m) ∙ ap₂ (λ (i j : ℕ). i + j) (length-take-le (s .count) (s .waiting) (omega arith)) n ∙ omega arith in
+      let nF : length F ≡ 64 = length-waiting s (take r m) (omega arith) ∙ omega arith in
       let d : drop (s .count + length (take r m)) (s .waiting) ≡ [] = drop-of-length-le (s .waiting) {i = s .count + length (take r m)} (omega arith) in
       let fF : full ≡ F = ef ∙ paste-whole (s .waiting) (take r m) (s .count) ∙ ap (λ (x : List ℕ). F ++ x) d ∙ append-nil F in
       let joined : F ++ t ≡ all =

@@ -23,7 +23,7 @@ padded-size-requires : tie.Need-padded-size-requires
 padded-size-requires c κs = search needs
 
 -- the one block or the two that the waiting bytes and the padding fill
-filled : (c : tie.After-padded-size) → Fills (c .before .before .before .before .before .args .self .count) (c .before .before .before .before .before .args .self .total) (c .padded-size .result)
+filled : (c : tie.After-padded-size) → let self = c .before .before .before .before .before .args .self in Fills (self .count) (self .total) (c .padded-size .result)
 filled c = fills _ _ _ (c .before .before .before .before .before .pre .counted) (c .padded-size .ensures)
 
 padded-requires : tie.Need-padded-requires
