@@ -68,7 +68,8 @@ finishing-fed a s m l e =
     let r = ready s (length m) e in
     finishing-accepted a (fed a s m) (accepts-fed a s m 0 l (r .counted) (omega (arith, r .within)))
 
-pub calls-from : (a : Algorithm) (s : Running) (parts : List (List ℕ)) → length (s .waiting) ≡ 64 → accepts s (length (flatten parts)) ≡ true → CallsFrom a s parts
+pub calls-from : (a : Algorithm) (s : Running) (parts : List (List ℕ)) → length (s .waiting) ≡ 64
+    → accepts s (length (flatten parts)) ≡ true → CallsFrom a s parts
 calls-from a s parts l e =
     let state = calls-are a s parts l e in
     let done = ap (finishing a) state ∙ finishing-fed a s (flatten parts) l e in
@@ -134,7 +135,8 @@ module _ (a : Algorithm) where
         absurd (omega arith)
 
     -- the part is refused: the whole message, whatever follows the part, is too long
-    refused-by : (b : Bool) → leb (length x + length y) limit ≡ b → (f : Fed) (m : List ℕ) → f ≡ feeding a (fed a (start a) x) y → (f .answer .number ≡ 0 → ⊥)
+    refused-by : (b : Bool) → leb (length x + length y) limit ≡ b → (f : Fed) (m : List ℕ) → f ≡ feeding a (fed a (start a) x) y
+        → (f .answer .number ≡ 0 → ⊥)
         → length x + length y ≤ length m → _≡_ {A = Hashed} (record { answer = f .answer; digest = replicate (a .size) 0 }) (hashing a m)
     unfolding fed-by
     refused-by true e f m p n l = absurd (n (ap (λ (r : Fed). r .answer .number) (p ∙ feeding-next true e)))
@@ -142,11 +144,12 @@ module _ (a : Algorithm) where
         let h : limit < length x + length y = leb-false (length x + length y) limit e in
         cc (feeding-next false e, hashing-refused a m (lt-leb (length m) limit (omega arith)))
 
-    pub part-taken : (f : Fed) → f ≡ feeding a (fed a (start a) x) y → f .answer .number ≡ 0 → (f .running ≡ fed a (start a) (x ++ y)) × (length (x ++ y) ≤ limit)
+    pub part-taken : (f : Fed) → f ≡ feeding a (fed a (start a) x) y → f .answer .number ≡ 0
+        → (f .running ≡ fed a (start a) (x ++ y)) × (length (x ++ y) ≤ limit)
     part-taken = taken-by (leb (length x + length y) limit) refl
 
-    pub part-refused : (f : Fed) (m : List ℕ) → f ≡ feeding a (fed a (start a) x) y → (f .answer .number ≡ 0 → ⊥) → length x + length y ≤ length m
-        → _≡_ {A = Hashed} (record { answer = f .answer; digest = replicate (a .size) 0 }) (hashing a m)
+    pub part-refused : (f : Fed) (m : List ℕ) → f ≡ feeding a (fed a (start a) x) y → (f .answer .number ≡ 0 → ⊥)
+        → length x + length y ≤ length m → _≡_ {A = Hashed} (record { answer = f .answer; digest = replicate (a .size) 0 }) (hashing a m)
     part-refused = refused-by (leb (length x + length y) limit) refl
 
   -- all of the message was fed

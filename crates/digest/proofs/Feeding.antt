@@ -46,8 +46,8 @@ digest-so-far a m =
     ∙ ap (wordBytes (a .order) (a .size)) (afterBlocks-more (a .block) (a .start) m (padding (a .order) (length m)))
 
 -- a running digest that was fed is possible, and takes more bytes while the total is within the limit
-pub accepts-fed : (a : Algorithm) (s : Running) (m : List ℕ) (n : ℕ) → length (s .waiting) ≡ 64 → s .count ≡ s .total % 64 → s .total + length m + n ≤ limit
-    → accepts (fed a s m) n ≡ true
+pub accepts-fed : (a : Algorithm) (s : Running) (m : List ℕ) (n : ℕ) → length (s .waiting) ≡ 64 → s .count ≡ s .total % 64
+    → s .total + length m + n ≤ limit → accepts (fed a s m) n ≡ true
 unfolding accepts possible fed
 accepts-fed a s m n l c h =
     let all = waitingBytes s ++ m in
