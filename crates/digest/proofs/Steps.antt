@@ -36,7 +36,7 @@ accepts-past s n h = sym (ap (λ (b : Bool). possible s && b) (lt-leb (s .total 
 pub paste-whole : (d s : List ℕ) (i : ℕ) → paste d i s (length s) ≡ (take i d ++ s) ++ drop (i + length s) d
 paste-whole d s i = ap (λ (l : List ℕ). (take i d ++ l) ++ drop (i + length s) d) (take-length s)
 
--- the waiting bytes with m after them
+-- the length of the waiting bytes with m after them
 pub length-waiting : (s : Running) (m : List ℕ) → s .count ≤ length (s .waiting) → length (waitingBytes s ++ m) ≡ s .count + length m
 length-waiting s m h = length-append (waitingBytes s) m ∙ ap (λ (k : ℕ). k + length m) (length-take-le (s .count) (s .waiting) h)
 

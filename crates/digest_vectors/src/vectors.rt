@@ -44,7 +44,7 @@ fn run_letters(letters: &[u8], n: usize) {
     }
 }
 
-// The first letters, in each of the lengths.
+// Messages of one letter, of each of the lengths.
 fn run_lengths(letters: &[u8]) {
     let mut i: usize = 0;
     while i < 13 {
