@@ -25,7 +25,8 @@ module _ (a : Algorithm) (s : Running) where
   unfolding finishing if_then_else_
   finishing-accepted e = rw e refl
 
-  pub finishing-refused : accepts s 0 ≡ false → finishing a s ≡ record { answer = refused 25 0; digest = replicate (a .size) 0; running = s }
+  pub finishing-refused : accepts s 0 ≡ false
+      → finishing a s ≡ record { answer = refused 25 0; digest = replicate (a .size) 0; running = s }
   unfolding finishing if_then_else_
   finishing-refused e = rw e refl
 
@@ -34,6 +35,7 @@ module _ (a : Algorithm) where
   unfolding hashing if_then_else_
   hashing-accepted m e = rw e refl
 
-  pub hashing-refused : (m : List ℕ) → leb (length m) limit ≡ false → hashing a m ≡ record { answer = refused 25 0; digest = replicate (a .size) 0 }
+  pub hashing-refused : (m : List ℕ) → leb (length m) limit ≡ false
+      → hashing a m ≡ record { answer = refused 25 0; digest = replicate (a .size) 0 }
   unfolding hashing if_then_else_
   hashing-refused m e = rw e refl

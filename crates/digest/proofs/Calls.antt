@@ -1,9 +1,8 @@
 -- What calls give one after the other: the digest of all bytes so far, from the start and from any possible running digest.
 -- Assumes nothing.
-use Rattle.answer.specs.If.{if_then_else_}
 use Prim.Native.Nat.{ℕ, _+_, _<_, _≤_}
 use mathlib.Core.Path.{_≡_, refl, sym, ap, _∙_}
-use mathlib.Core.Bool.{Bool, true, false}
+use mathlib.Core.Bool.{Bool, true, false, and-eq-true-iff}
 use mathlib.Core.List.{List, [], _∷_, _++_, flatten}
 use native.Mathlib.Nat.{zero-add}
 use native.Mathlib.Omega.{arith}
@@ -12,7 +11,7 @@ use lib.Dec.{leb}
 use lib.ListN.{length, replicate, length-append, length-replicate}
 use lib.Seq.{paste-zero}
 use Rattle.answer.specs.Answer.{accepted, refused}
-use Rattle.digest.specs.Message.{Algorithm, digestOf, limit, hashing}
+use Rattle.digest.specs.Message.{Algorithm, limit, hashing}
 use Rattle.digest.specs.Running.{allZero, possible, accepts, start, fed, finished, feeding, finishing}
 use Rattle.digest.specs.Theorems.{afterCalls, CallsFromStart, CallsFrom}
 use Rattle.digest.specs.declared.running.Running.{Running}
@@ -21,7 +20,6 @@ use Rattle.digest.specs.declared.running.Finished.{Finished}
 use Rattle.digest.specs.declared.message.Hashed.{Hashed}
 use Rattle.digest.proofs.Chain.{length-rest}
 use Rattle.digest.proofs.Steps.{ready, accepts-within, accepts-past, fed-few}
-use Rattle.digest.proofs.Tests.{and-left}
 use Rattle.digest.proofs.Feeding.{two-feedings, digest-so-far, accepts-fed}
 use Rattle.digest.proofs.Answers.{feeding-accepted, feeding-refused, finishing-accepted, hashing-accepted, hashing-refused}
 
@@ -30,7 +28,7 @@ accepts-fewer : (s : Running) (n k : ℕ) → k ≤ n → accepts s n ≡ true �
 unfolding accepts
 accepts-fewer s n k h e =
     let r = ready s n e in
-    sym (accepts-within s k true (omega arith) (sym (and-left (possible s) (leb (s .total + n) limit) e)))
+    sym (accepts-within s k true (omega arith) (sym (and-eq-true-iff _ _ .0 e .0)))
 
 accepts-start : (a : Algorithm) (n : ℕ) → accepts (start a) n ≡ leb n limit
 unfolding accepts possible start allZero
@@ -70,7 +68,8 @@ finishing-fed a s m l e =
     let r = ready s (length m) e in
     finishing-accepted a (fed a s m) (accepts-fed a s m 0 l (r .counted) (omega (arith, r .within)))
 
-pub calls-from : (a : Algorithm) (s : Running) (parts : List (List ℕ)) → length (s .waiting) ≡ 64 → accepts s (length (flatten parts)) ≡ true → CallsFrom a s parts
+pub calls-from : (a : Algorithm) (s : Running) (parts : List (List ℕ)) → length (s .waiting) ≡ 64
+    → accepts s (length (flatten parts)) ≡ true → CallsFrom a s parts
 calls-from a s parts l e =
     let state = calls-are a s parts l e in
     let done = ap (finishing a) state ∙ finishing-fed a s (flatten parts) l e in
@@ -136,7 +135,8 @@ module _ (a : Algorithm) where
         absurd (omega arith)
 
     -- the part is refused: the whole message, whatever follows the part, is too long
-    refused-by : (b : Bool) → leb (length x + length y) limit ≡ b → (f : Fed) (m : List ℕ) → f ≡ feeding a (fed a (start a) x) y → (f .answer .number ≡ 0 → ⊥)
+    refused-by : (b : Bool) → leb (length x + length y) limit ≡ b → (f : Fed) (m : List ℕ) → f ≡ feeding a (fed a (start a) x) y
+        → (f .answer .number ≡ 0 → ⊥)
         → length x + length y ≤ length m → _≡_ {A = Hashed} (record { answer = f .answer; digest = replicate (a .size) 0 }) (hashing a m)
     unfolding fed-by
     refused-by true e f m p n l = absurd (n (ap (λ (r : Fed). r .answer .number) (p ∙ feeding-next true e)))
@@ -144,11 +144,12 @@ module _ (a : Algorithm) where
         let h : limit < length x + length y = leb-false (length x + length y) limit e in
         cc (feeding-next false e, hashing-refused a m (lt-leb (length m) limit (omega arith)))
 
-    pub part-taken : (f : Fed) → f ≡ feeding a (fed a (start a) x) y → f .answer .number ≡ 0 → (f .running ≡ fed a (start a) (x ++ y)) × (length (x ++ y) ≤ limit)
+    pub part-taken : (f : Fed) → f ≡ feeding a (fed a (start a) x) y → f .answer .number ≡ 0
+        → (f .running ≡ fed a (start a) (x ++ y)) × (length (x ++ y) ≤ limit)
     part-taken = taken-by (leb (length x + length y) limit) refl
 
-    pub part-refused : (f : Fed) (m : List ℕ) → f ≡ feeding a (fed a (start a) x) y → (f .answer .number ≡ 0 → ⊥) → length x + length y ≤ length m
-        → _≡_ {A = Hashed} (record { answer = f .answer; digest = replicate (a .size) 0 }) (hashing a m)
+    pub part-refused : (f : Fed) (m : List ℕ) → f ≡ feeding a (fed a (start a) x) y → (f .answer .number ≡ 0 → ⊥)
+        → length x + length y ≤ length m → _≡_ {A = Hashed} (record { answer = f .answer; digest = replicate (a .size) 0 }) (hashing a m)
     part-refused = refused-by (leb (length x + length y) limit) refl
 
   -- all of the message was fed

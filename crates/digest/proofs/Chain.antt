@@ -1,4 +1,4 @@
--- Feeding in parts, for any block function: what is afterBlocks and what is left do not depend on how the message is cut.
+-- Feeding in parts, for any block function: the words after the blocks and the bytes left do not depend on how the message is cut.
 -- Assumes nothing.
 use Prim.Native.Nat.{ℕ, zero, suc, _+_, _-_, _*_, _/_, _%_, _<_, _≤_}
 use mathlib.Core.Path.{_≡_, refl, sym, ap, ap₂, _∙_}
@@ -45,7 +45,8 @@ rest-append : (a b : List ℕ) → drop (64 * (length a / 64)) (a ++ b) ≡ rest
 unfolding rest
 rest-append a b = drop-append-le (64 * (length a / 64)) a b (omega arith)
 
-pub afterBlocks-more : (f : List ℕ → List ℕ → List ℕ) (h a b : List ℕ) → afterBlocks f (afterBlocks f h a) (rest a ++ b) ≡ afterBlocks f h (a ++ b)
+pub afterBlocks-more : (f : List ℕ → List ℕ → List ℕ) (h a b : List ℕ)
+    → afterBlocks f (afterBlocks f h a) (rest a ++ b) ≡ afterBlocks f h (a ++ b)
 unfolding afterBlocks
 afterBlocks-more f h a b =
     let n = length a / 64 in

@@ -17,6 +17,7 @@ use Rattle.digest.specs.Theorems.{TwoFeedings, DigestSoFar}
 use Rattle.digest.specs.declared.running.Running.{Running}
 use Rattle.digest.proofs.Chain.{afterBlocks-more, rest-more, length-rest}
 use Rattle.digest.proofs.Zeros.{zeros-zero}
+use Rattle.digest.proofs.Steps.{length-waiting}
 
 -- what waits after a feeding
 waiting-fed : (a : Algorithm) (s : Running) (m : List ℕ) → waitingBytes (fed a s m) ≡ rest (waitingBytes s ++ m)
@@ -45,13 +46,13 @@ digest-so-far a m =
     ∙ ap (wordBytes (a .order) (a .size)) (afterBlocks-more (a .block) (a .start) m (padding (a .order) (length m)))
 
 -- a running digest that was fed is possible, and takes more bytes while the total is within the limit
-pub accepts-fed : (a : Algorithm) (s : Running) (m : List ℕ) (n : ℕ) → length (s .waiting) ≡ 64 → s .count ≡ s .total % 64 → s .total + length m + n ≤ limit
-    → accepts (fed a s m) n ≡ true
+pub accepts-fed : (a : Algorithm) (s : Running) (m : List ℕ) (n : ℕ) → length (s .waiting) ≡ 64 → s .count ≡ s .total % 64
+    → s .total + length m + n ≤ limit → accepts (fed a s m) n ≡ true
 unfolding accepts possible fed
 accepts-fed a s m n l c h =
     let all = waitingBytes s ++ m in
-    let na : length all ≡ s .count + length m = length-append (waitingBytes s) m ∙ ap (λ (k : ℕ). k + length m) (length-take-le (s .count) (s .waiting) (omega arith)) in
-    let e₁ : eqb (length (rest all)) ((s .total + length m) % 64) ≡ true = eq-eqb (length (rest all)) ((s .total + length m) % 64) (length-rest all ∙ omega arith) in
+    let n₁ = length-waiting s m (omega arith) in
+    let e₁ : eqb (length (rest all)) ((s .total + length m) % 64) ≡ true = eq-eqb _ _ (length-rest all ∙ omega arith) in
     let e₂ : allZero (drop (length (rest all)) (zeroFilled (rest all))) ≡ true =
     ap allZero (drop-append-seam (rest all) (replicate (64 - length (rest all)) 0)) ∙ zeros-zero (64 - length (rest all)) in
     let e₃ : leb (s .total + length m + n) limit ≡ true = le-leb (s .total + length m + n) limit h in

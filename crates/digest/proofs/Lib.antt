@@ -1,10 +1,9 @@
 pub mod Tables
 pub mod Rounds
-pub mod Tests
 pub mod Constants
 pub mod Chain
 pub mod Zeros
-pub mod Ending
+pub mod Padded
 pub mod Steps
 pub mod Feeding
 pub mod Answers

@@ -34,8 +34,8 @@ nextWord-take ws t h =
     cc
 
 -- one more word of the schedule, stored in its place
-pub extended-next : (ws w : List ℕ) (t n x : ℕ) → n ≡ t + 1 → length ws ≡ 16 → 16 ≤ t → t < length w → take t w ≡ extended (t - 16) ws → x ≡ nextWord w t
-    → take n (set w t x) ≡ extended (n - 16) ws
+pub extended-next : (ws w : List ℕ) (t n x : ℕ) → n ≡ t + 1 → length ws ≡ 16 → 16 ≤ t → t < length w
+    → take t w ≡ extended (t - 16) ws → x ≡ nextWord w t → take n (set w t x) ≡ extended (n - 16) ws
 unfolding extended
 extended-next ws w t n x p l h g e q =
     let k : t + 1 - 16 ≡ suc (t - 16) = omega arith in
@@ -44,6 +44,7 @@ extended-next ws w t n x p l h g e q =
     rw (p, k) (stored-next w (extended (t - 16) ws) t x _ g e y)
 
 -- one round more, with the constant from the table k
-pub rounds-next : (k w : List ℕ) (v u u′ : Working) (t n : ℕ) → k ≡ constants → n ≡ t + 1 → u ≡ rounds t w v → u′ ≡ round (at k t) (at w t) u → u′ ≡ rounds n w v
+pub rounds-next : (k w : List ℕ) (v u u′ : Working) (t n : ℕ) → k ≡ constants → n ≡ t + 1 → u ≡ rounds t w v
+    → u′ ≡ round (at k t) (at w t) u → u′ ≡ rounds n w v
 unfolding rounds
 rounds-next k w v u u′ t n c p e q = rw (p, add-one) (q ∙ ap₂ (λ (l : List ℕ) (x : Working). round (at l t) (at w t) x) c e)

@@ -1,33 +1,27 @@
--- What the code does with the array of waiting bytes is what `fed` says, for any algorithm.
+-- The code's test is `accepts`, and what the code does with the array of waiting bytes is what `fed` says, for any algorithm.
 -- Assumes nothing.
 use Prim.Native.Nat.{ℕ, _+_, _-_, _*_, _/_, _%_, _<_, _≤_}
 use mathlib.Core.Path.{_≡_, sym, ap, ap₂, _∙_}
-use mathlib.Core.Bool.{Bool, true, false, _&&_, and-true, and-false}
+use mathlib.Core.Bool.{Bool, true, false, _&&_, and-true, and-false, and-eq-true-iff}
 use mathlib.Core.List.{List, [], _++_, append-assoc, append-nil}
 use native.Mathlib.Omega.{arith}
 use borrow.Author.Tests.{eqb-true, leb-true, le-leb, lt-leb}
-use lib.Dec.{eqb, leb}
 use lib.ListN.{length, take, drop, replicate, length-append, length-drop, take-append-drop, drop-of-length-le}
 use lib.Seq.{paste, take-length, take-all, length-take-le}
 use Rattle.digest.specs.Message.{Algorithm, afterBlocks, rest, limit}
-use Rattle.digest.specs.Running.{waitingBytes, allZero, possible, accepts, zeroFilled, fed}
-use Rattle.digest.specs.Ready.{Ready}
+use Rattle.digest.specs.Running.{waitingBytes, possible, accepts, zeroFilled, fed}
+use Rattle.digest.specs.Inner.Ready.{Ready}
 use Rattle.digest.specs.declared.running.Running.{Running}
 use Rattle.digest.proofs.Chain.{afterBlocks-more, afterBlocks-few, rest-more, rest-few, rest-one, length-rest}
-use Rattle.digest.proofs.Tests.{and-left, and-right}
 use Rattle.digest.proofs.Zeros.{zeros-after, drop-replicate}
 
 -- the test gives the facts
 pub ready : (s : Running) (n : ℕ) → accepts s n ≡ true → Ready s n
 unfolding accepts possible
 ready s n e =
-    let p = and-left (possible s) (leb (s .total + n) limit) e in
-    let l : s .total + n ≤ limit = leb-true _ _ (and-right (possible s) (leb (s .total + n) limit) e) in
-    record {
-      counted = eqb-true (s .count) (s .total % 64) (and-left (eqb (s .count) (s .total % 64)) (allZero (drop (s .count) (s .waiting))) p);
-      empty = and-right (eqb (s .count) (s .total % 64)) (allZero (drop (s .count) (s .waiting))) p;
-      within = omega arith;
-    }
+    let tests = and-eq-true-iff _ _ .0 e in
+    let possible = and-eq-true-iff _ _ .0 (tests .0) in
+    record { counted = eqb-true _ _ (possible .0); empty = possible .1; within = leb-true _ _ (tests .1) }
 
 -- the test, as the code makes it: the limit first
 pub accepts-within : (s : Running) (n : ℕ) (t : Bool) → s .total + n ≤ limit → t ≡ possible s → t ≡ accepts s n
@@ -42,15 +36,19 @@ accepts-past s n h = sym (ap (λ (b : Bool). possible s && b) (lt-leb (s .total 
 pub paste-whole : (d s : List ℕ) (i : ℕ) → paste d i s (length s) ≡ (take i d ++ s) ++ drop (i + length s) d
 paste-whole d s i = ap (λ (l : List ℕ). (take i d ++ l) ++ drop (i + length s) d) (take-length s)
 
+-- the length of the waiting bytes with m after them
+pub length-waiting : (s : Running) (m : List ℕ) → s .count ≤ length (s .waiting) → length (waitingBytes s ++ m) ≡ s .count + length m
+length-waiting s m h = length-append (waitingBytes s) m ∙ ap (λ (k : ℕ). k + length m) (length-take-le (s .count) (s .waiting) h)
+
 -- a part that goes to the end
 pub part-to-end : (m : List ℕ) (i : ℕ) → take (length m - i) (drop i m) ≡ drop i m
 part-to-end m i = take-all (length m - i) (drop i m) (simp length-drop (omega arith))
 
 -- what is left, in an array of zeros
-pub kept-rest : (m p : List ℕ) (from : ℕ) → from ≡ length m - length m % 64 → p ≡ take (length m - from) (drop from m)
+pub rest-in-zeros : (m p : List ℕ) (from : ℕ) → from ≡ length m - length m % 64 → p ≡ take (length m - from) (drop from m)
     → paste (replicate 64 0) 0 p (length p) ≡ zeroFilled (rest m)
 unfolding rest
-kept-rest m p from e q =
+rest-in-zeros m p from e q =
     let f : from ≡ 64 * (length m / 64) = omega arith in
     let n : 64 - (0 + length p) ≡ 64 - length p = omega arith in
     paste-whole (replicate 64 0) p 0
@@ -64,7 +62,7 @@ module _ (a : Algorithm) (s : Running) (m : List ℕ) (l : length (s .waiting) �
   unfolding fed
   fed-few w r h e =
       let all = waitingBytes s ++ m in
-      let n : length all ≡ s .count + length m = length-append (waitingBytes s) m ∙ ap (λ (k : ℕ). k + length m) (length-take-le (s .count) (s .waiting) (omega arith)) in
+      let n = length-waiting s m (omega arith) in
       let re : all ≡ rest all = sym (rest-few all (omega arith)) in
       let k : length (s .waiting) - (s .count + length m) ≡ 64 - length all = omega arith in
       let z : drop (s .count + length m) (s .waiting) ≡ replicate (64 - length all) 0 =
@@ -86,8 +84,7 @@ module _ (a : Algorithm) (s : Running) (m : List ℕ) (l : length (s .waiting) �
       let F = waitingBytes s ++ take r m in
       let all = waitingBytes s ++ m in
       let n : length (take r m) ≡ r = length-take-le r m (omega arith) in
-      let nF : length F ≡ 64 =
-      length-append (waitingBytes s) (take r m) ∙ ap₂ (λ (i j : ℕ). i + j) (length-take-le (s .count) (s .waiting) (omega arith)) n ∙ omega arith in
+      let nF : length F ≡ 64 = length-waiting s (take r m) (omega arith) ∙ omega arith in
       let d : drop (s .count + length (take r m)) (s .waiting) ≡ [] = drop-of-length-le (s .waiting) {i = s .count + length (take r m)} (omega arith) in
       let fF : full ≡ F = ef ∙ paste-whole (s .waiting) (take r m) (s .count) ∙ ap (λ (x : List ℕ). F ++ x) d ∙ append-nil F in
       let joined : F ++ t ≡ all =

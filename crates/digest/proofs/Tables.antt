@@ -18,6 +18,7 @@ pub stored-next : (w ws : List ℕ) (i x y : ℕ) → i < length w → take i w 
 stored-next w ws i x y h e p = rw add-one (take-suc-set w i x h ∙ ap₂ (λ (l : List ℕ) (z : ℕ). l ++ (z ∷ [])) e p)
 
 -- one more entry of a table
-pub tabulate-next : (f : ℕ → ℕ) (w : List ℕ) (i x : ℕ) → i < length w → take i w ≡ tabulate f i → x ≡ f i → take (i + 1) (set w i x) ≡ tabulate f (i + 1)
+pub tabulate-next : (f : ℕ → ℕ) (w : List ℕ) (i x : ℕ) → i < length w → take i w ≡ tabulate f i → x ≡ f i
+    → take (i + 1) (set w i x) ≡ tabulate f (i + 1)
 unfolding tabulate
 tabulate-next f w i x h e p = stored-next w (tabulate f i) i x (f i) h e p ∙ (rw add-one refl)

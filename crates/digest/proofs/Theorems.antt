@@ -2,7 +2,7 @@
 -- Assumes nothing.
 use Rattle.digest.specs.Theorems.{Theorems}
 use Rattle.digest.proofs.Constants.{constants-rule, start-words-rule}
-use Rattle.digest.proofs.Ending.{fewest-zeros}
+use Rattle.digest.proofs.Padded.{fewest-zeros}
 use Rattle.digest.proofs.Feeding.{two-feedings, digest-so-far}
 use Rattle.digest.proofs.Calls.{calls, calls-from}
 

@@ -2,17 +2,15 @@
 -- Assumes nothing.
 use Prim.Native.Nat.{ℕ, zero, suc, _+_, _-_, _<_, _≤_}
 use mathlib.Core.Path.{_≡_, refl, sym, ap, ap₂, _∙_}
-use mathlib.Core.Bool.{Bool, true, false, _&&_, false≢true}
-use mathlib.Core.List.{List, [], _∷_, _++_, append-assoc}
+use mathlib.Core.Bool.{Bool, true, false, _&&_, and-eq-true-iff}
+use mathlib.Core.List.{List, [], _∷_}
 use native.Mathlib.Numerals.{add-one}
 use native.Mathlib.Omega.{arith}
 use borrow.Author.Tests.{eq-eqb, ne-eqb, eqb-true}
 use lib.Dec.{eqb}
-use lib.ListN.{length, getD, set, take, drop, replicate, length-append, length-replicate, length-drop}
-use lib.Seq.{drop-cons, drop-drop, paste, take-paste, take-length, take-all, take-append-add, set-append-seam}
+use lib.ListN.{length, getD, take, drop, replicate, length-drop}
+use lib.Seq.{drop-cons, drop-drop}
 use Rattle.digest.specs.Running.{allZero}
-use Rattle.digest.proofs.Tests.{and-left, and-right}
-use Rattle.digest.specs.Theorems.{FewestZeros}
 
 -- ---- a list tested from an index on
 -- the next byte is 0, so what follows decides
@@ -34,7 +32,8 @@ zero-list : (l : List ℕ) → allZero l ≡ true → l ≡ replicate (length l)
 unfolding allZero
 zero-list [] e = refl
 zero-list (x ∷ l) e =
-    ap₂ (λ (y : ℕ) (t : List ℕ). y ∷ t) (eqb-true x 0 (and-left (eqb x 0) (allZero l) e)) (zero-list l (and-right (eqb x 0) (allZero l) e))
+    let tests = and-eq-true-iff (eqb x 0) (allZero l) .0 e in
+    ap₂ (λ (y : ℕ) (t : List ℕ). y ∷ t) (eqb-true x 0 (tests .0)) (zero-list l (tests .1))
 
 -- ---- parts of a list of one value
 pub drop-replicate : (k n z : ℕ) → drop k (replicate n z) ≡ replicate (n - k) z

@@ -1,4 +1,5 @@
--- The rule for the constants of SHA-256: FIPS 180-4, 4.2.2 and 5.3.3. The theorems ConstantsRule and StartWordsRule say that the tables keep it.
+-- The rule for the constants of SHA-256: FIPS 180-4, 4.2.2 and 5.3.3. The theorems ConstantsRule and StartWordsRule say that the tables
+-- keep it.
 -- Assumes nothing.
 use Prim.Native.Nat.{ℕ, zero, suc, _+_, _-_, _*_, _%_, _^_, _<_, _≤_}
 use mathlib.Core.Bool.{Bool, true, not, _&&_, _||_}
@@ -6,8 +7,8 @@ use mathlib.Core.List.{List, [], _∷_, _++_}
 use lib.Dec.{eqb, leb, ltb}
 use Rattle.answer.specs.If.{if_then_else_}
 
--- 4.2.2, 5.3.3: x is the first 32 bits of the fractional part of the e-th root of p. With the root's whole part, whole * 2 ^ 32 + x is the greatest number whose e-th power
--- is at most p * 2 ^ (32 * e).
+-- 4.2.2, 5.3.3: x is the first 32 bits of the fractional part of the e-th root of p. With the root's whole part, whole * 2 ^ 32 + x is the
+-- greatest number whose e-th power is at most p * 2 ^ (32 * e).
 pub record RootBits (e p x : ℕ) : Type 0 where
   pub word : x < 2 ^ 32
   pub whole : ℕ

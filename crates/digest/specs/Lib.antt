@@ -6,5 +6,5 @@ pub mod Sha256
 pub mod Constants
 pub mod Running
 pub mod Theorems
--- for inner contracts only; a reader need not believe it
-pub mod Ready
+-- for inner contracts; a reader need not believe it
+pub mod Inner

@@ -1,4 +1,5 @@
--- The digest of a whole message, over any algorithm that takes a padded message block by block: FIPS 180-4, 5.2.1, 5.3 and 6.2; RFC 1321, 3.
+-- The digest of a whole message, over any algorithm that takes a padded message block by block: FIPS 180-4, 5.2.1, 5.3 and 6.2;
+-- RFC 1321, 3.
 -- `Hashed` is the struct of src/message.rt. An array of the code is the list of its numbers.
 -- Assumes nothing.
 use Prim.Native.Nat.{ℕ, zero, suc, _-_, _*_, _/_, _^_}
@@ -34,8 +35,8 @@ afterBlocks block h m = chain block (length m / 64) h m
 unfoldable pub rest : List ℕ → List ℕ
 rest m = drop (64 * (length m / 64)) m
 
--- 6.2.2, last paragraph: the digest of a message of bytes is the words after its last block, in a row. FIPS 180-4 defines it for messages below 2 ^ 64 bits; no call gives
--- it for longer ones (`hashing`).
+-- 6.2.2, last paragraph: the digest of a message of bytes is the words after its last block, in a row. FIPS 180-4 defines it for messages
+-- below 2 ^ 64 bits; no call gives it for longer ones (`hashing`). The padded message fills whole blocks (the theorem FewestZeros).
 unfoldable pub digestOf : Algorithm → List ℕ → List ℕ
 digestOf a m = wordBytes (a .order) (a .size) (afterBlocks (a .block) (a .start) (m ++ padding (a .order) (length m)))
 
@@ -43,7 +44,7 @@ digestOf a m = wordBytes (a .order) (a .size) (afterBlocks (a .block) (a .start)
 abbrev pub limit : ℕ
 limit = 2 ^ 61 - 1
 
--- the digest of a whole message, or 25 where it is longer than the limit
+-- the digest of a whole message, or 25 where it is longer than the limit (docs/DECISIONS.md, D5). The answer's length is 0 (A3).
 unfoldable pub hashing : Algorithm → List ℕ → Hashed
 hashing a m =
     if leb (length m) limit then record { answer = accepted 0; digest = digestOf a m } else

@@ -1,8 +1,9 @@
 -- The running digest, over any algorithm: 01, "The digest", and number 25. Running digest, waiting and possible are terms of 01.
--- `Running`, `Fed` and `Finished` are the structs of src/running.rt: "eight words, at most 63 waiting bytes and a total", the waiting bytes in an array of 64 with their count.
+-- `Running`, `Fed` and `Finished` are the structs of src/running.rt: "eight words, at most 63 waiting bytes and a total", the waiting bytes
+-- in an array of 64 with their count.
 -- An array of the code is the list of its numbers; the definitions hold for lists of any length.
 -- Assumes nothing.
-use Prim.Native.Nat.{ℕ, _+_, _-_, _%_, _^_}
+use Prim.Native.Nat.{ℕ, _+_, _-_, _%_}
 use mathlib.Core.Bool.{Bool, true, _&&_}
 use mathlib.Core.List.{List, [], _∷_, _++_}
 use lib.Dec.{eqb, leb}
@@ -44,20 +45,26 @@ start a = record { words = a .start; waiting = zeroFilled []; count = 0; total =
 unfoldable pub fed : Algorithm → Running → List ℕ → Running
 fed a s m =
     let bytes = waitingBytes s ++ m in
-    record { words = afterBlocks (a .block) (s .words) bytes; waiting = zeroFilled (rest bytes); count = length (rest bytes); total = s .total + length m }
+    record {
+      words = afterBlocks (a .block) (s .words) bytes;
+      waiting = zeroFilled (rest bytes);
+      count = length (rest bytes);
+      total = s .total + length m;
+    }
 
 -- the digest of all bytes so far: the waiting bytes and the padding of the total are taken in whole blocks
 unfoldable pub finished : Algorithm → Running → List ℕ
 finished a s = wordBytes (a .order) (a .size) (afterBlocks (a .block) (s .words) (waitingBytes s ++ padding (a .order) (s .total)))
 
--- "each feeding takes a running digest and gives back the next; a refused one gives back what it got"
+-- "each feeding takes a running digest and gives back the next; a refused one gives back what it got". The answer's length is 0
+-- (docs/DECISIONS.md, A3).
 unfoldable pub feeding : Algorithm → Running → List ℕ → Fed
 feeding a s m =
     if accepts s (length m) then record { answer = accepted 0; running = fed a s m } else
     record { answer = refused 25 0; running = s }
 
--- "Finishing an impossible one answers 25 with 32 zero bytes", as many as the digest has, and so does finishing one whose total is past the limit. The running
--- digest comes back as it was
+-- "Finishing an impossible one answers 25 with 32 zero bytes", as many as the digest has, and so does finishing one whose total is past the
+-- limit (docs/DECISIONS.md, D2). The answer's length is 0 (A3). The running digest comes back as it was (D4).
 unfoldable pub finishing : Algorithm → Running → Finished
 finishing a s =
     if accepts s 0 then record { answer = accepted 0; digest = finished a s; running = s } else

@@ -5,14 +5,14 @@ use lib.Bits.{bitAnd, bitOr, bitXor}
 
 -- 2.2.2: x << n, without the bits that leave the word
 abbrev pub shl : ℕ → ℕ → ℕ
-shl n x = x * 2 ^ n % 2 ^ 32
+shl n x = (x * 2 ^ n) % 2 ^ 32
 
 -- 3.2: SHR^n(x) = x >> n
 abbrev pub shr : ℕ → ℕ → ℕ
 shr n x = x / 2 ^ n
 
 -- 3.2: ROTR^n(x) = (x >> n) ∨ (x << 32 - n)
-unfoldable pub rotr : ℕ → ℕ → ℕ
+abbrev pub rotr : ℕ → ℕ → ℕ
 rotr n x = bitOr (shr n x) (shl (32 - n) x)
 
 -- 2.2.2: ¬x, all 32 bits of a word turned
@@ -20,11 +20,11 @@ abbrev pub complement : ℕ → ℕ
 complement x = 2 ^ 32 - 1 - x
 
 -- 4.1.2, (4.2): Ch(x, y, z)
-unfoldable pub ch : ℕ → ℕ → ℕ → ℕ
+abbrev pub ch : ℕ → ℕ → ℕ → ℕ
 ch x y z = bitXor (bitAnd x y) (bitAnd (complement x) z)
 
 -- 4.1.2, (4.3): Maj(x, y, z)
-unfoldable pub maj : ℕ → ℕ → ℕ → ℕ
+abbrev pub maj : ℕ → ℕ → ℕ → ℕ
 maj x y z = bitXor (bitXor (bitAnd x y) (bitAnd x z)) (bitAnd y z)
 
 -- 4.1.2, (4.4): Σ0

@@ -18,14 +18,12 @@ pub(crate) fn put(to: &mut [u8], at: usize, from: &[u8])
     }
 }
 
-// The word of four bytes.
 pub(crate) fn word(a: u8, b: u8, c: u8, d: u8) -> u32
     ensures { λ r. ⌜ r ≡ a * 2 ^ 24 + b * 2 ^ 16 + c * 2 ^ 8 + d ⌝ }
 {
     (a as u32) * 16777216 + (b as u32) * 65536 + (c as u32) * 256 + (d as u32)
 }
 
-// A number's eight bytes.
 pub(crate) fn number_bytes(n: u64) -> [u8; 8]
     ensures { λ r. ⌜ r ≡ Spec.bytesOf Spec.bigEndian 8 n ⌝ }
 {
@@ -41,7 +39,6 @@ pub(crate) fn number_bytes(n: u64) -> [u8; 8]
     ]
 }
 
-// Byte i of a word.
 fn word_byte(word: u32, i: usize) -> u8
     requires { ⌜ i < 4 ⌝ }
     ensures { λ r. ⌜ r ≡ Spec.byteOf Spec.bigEndian 4 word i ⌝ }
@@ -50,7 +47,6 @@ fn word_byte(word: u32, i: usize) -> u8
     ((word >> shift) % 256) as u8
 }
 
-// The bytes of eight words.
 pub(crate) fn word_bytes(words: [u32; 8]) -> [u8; 32]
     ensures { λ r. ⌜ r ≡ Spec.wordBytes Spec.bigEndian 32 words ⌝ }
 {

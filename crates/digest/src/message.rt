@@ -5,7 +5,6 @@ ghost use mathlib.Core.Path.{_≡_};
 ghost use Rattle.digest.specs.Sha256 as Sha256;
 ghost use Rattle.digest.specs.Message as Message;
 
-// The answer, and the digest of a whole message.
 pub struct Hashed {
     pub answer: Answer,
     pub digest: [u8; 32],

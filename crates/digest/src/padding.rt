@@ -1,4 +1,4 @@
-// The end of a message: the waiting bytes and the padding after them, FIPS 180-4, 5.1.1.
+// The waiting bytes and the padding after them: FIPS 180-4, 5.1.1.
 use crate::bytes;
 ghost use mathlib.Core.Path.{_≡_};
 ghost use mathlib.Core.List.{_∷_, _++_};
@@ -7,8 +7,8 @@ ghost use lib.Dec.{ltb};
 ghost use lib.ListN.{take, replicate};
 ghost use Rattle.answer.specs.If.{if_then_else_};
 
-// How many bytes the end of a message has after `count` waiting bytes: one block, or two where the length does not fit.
-pub(crate) fn ending_size(count: usize) -> usize
+// How many bytes `count` waiting bytes are when they are padded: one block, or two where the length does not fit.
+pub(crate) fn padded_size(count: usize) -> usize
     ensures { λ r. ⌜ r ≡ (if ltb count 56 then 64 else 128) ⌝ }
 {
     if count < 56 {
@@ -18,7 +18,7 @@ pub(crate) fn ending_size(count: usize) -> usize
 }
 
 // The waiting bytes, the byte 0x80, zeros, and the eight bytes of the length in bits: n bytes in all.
-pub(crate) fn ending(waiting: [u8; 64], count: usize, bits: [u8; 8], n: usize) -> [u8; 128]
+pub(crate) fn padded(waiting: [u8; 64], count: usize, bits: [u8; 8], n: usize) -> [u8; 128]
     requires { ⌜ (count < 64) × (count + 9 ≤ n) × (n ≤ 128) ⌝ }
     ensures { λ r. ⌜ take n r ≡ take count waiting ++ (0x80 ∷ (replicate (n - 9 - count) 0 ++ bits)) ⌝ }
 {

@@ -10,10 +10,10 @@ ghost use lib.Seq.{paste};
 ghost use Rattle.digest.specs.Message.{rest};
 ghost use Rattle.digest.specs.Sha256 as Sha256;
 ghost use Rattle.digest.specs.Running as Spec;
-ghost use Rattle.digest.specs.Ready.{Ready};
+ghost use Rattle.digest.specs.Inner.Ready.{Ready};
 
 // The most bytes of a message, 2^61 - 1: their bits are counted in 64 bits.
-const LIMIT: u64 = 2305843009213693951;
+pub const LIMIT: u64 = 2305843009213693951;
 
 // Eight words, the bytes that wait for the rest of their block, their count, and the total of all bytes.
 pub struct Running {
@@ -51,22 +51,22 @@ fn zero_from(bytes: [u8; 64], from: usize) -> bool
     true
 }
 
-// The waiting bytes with s after them.
-fn filled(waiting: [u8; 64], count: usize, s: &[u8]) -> [u8; 64]
-    requires { ⌜ count + length (now s) ≤ 64 ⌝ }
-    ensures { λ r. ⌜ r ≡ paste waiting count (now (s .entry)) (length (now (s .entry))) ⌝ }
+// The waiting bytes with `bytes` after them.
+fn filled(waiting: [u8; 64], count: usize, bytes: &[u8]) -> [u8; 64]
+    requires { ⌜ count + length (now bytes) ≤ 64 ⌝ }
+    ensures { λ r. ⌜ r ≡ paste waiting count (now (bytes .entry)) (length (now (bytes .entry))) ⌝ }
 {
     let mut w = waiting;
-    bytes::put(&mut w, count, s);
+    bytes::put(&mut w, count, bytes);
     w
 }
 
-// The bytes of s past its whole blocks, as they wait.
-fn kept(s: &[u8]) -> [u8; 64]
-    ensures { λ r. ⌜ r ≡ Spec.zeroFilled (rest (now (s .entry))) ⌝ }
+// The bytes past the whole blocks, as they wait.
+fn rest_waiting(bytes: &[u8]) -> [u8; 64]
+    ensures { λ r. ⌜ r ≡ Spec.zeroFilled (rest (now (bytes .entry))) ⌝ }
 {
-    let from = s.len() - s.len() % 64;
-    filled([0u8; 64], 0, &s[from..])
+    let from = bytes.len() - bytes.len() % 64;
+    filled([0u8; 64], 0, &bytes[from..])
 }
 
 impl Running {
@@ -109,19 +109,19 @@ impl Running {
         false
     }
 
-    // The running digest after s.
-    fn fed(self, s: &[u8]) -> Self
-        requires { ⌜ Ready self (length (now s)) ⌝ }
-        ensures { λ r. ⌜ r ≡ Spec.fed Sha256.sha256 self (now (s .entry)) ⌝ }
+    // The running digest after `bytes`.
+    fn fed(self, bytes: &[u8]) -> Self
+        requires { ⌜ Ready self (length (now bytes)) ⌝ }
+        ensures { λ r. ⌜ r ≡ Spec.fed Sha256.sha256 self (now (bytes .entry)) ⌝ }
     {
         let count = self.count;
         let words = self.words;
         let waiting = self.waiting;
-        let total = self.total + (s.len() as u64);
+        let total = self.total + (bytes.len() as u64);
         let room = 64 - count;
-        if s.len() < room {
-            let more = filled(waiting, count, s);
-            let held = count + s.len();
+        if bytes.len() < room {
+            let more = filled(waiting, count, bytes);
+            let held = count + bytes.len();
             return Running {
                 words,
                 waiting: more,
@@ -129,11 +129,11 @@ impl Running {
                 total,
             };
         }
-        let full = filled(waiting, count, &s[..room]);
-        let first = sha256::blocks(words, &full);
-        let after = &s[room..];
-        let next = sha256::blocks(first, after);
-        let left = kept(after);
+        let full = filled(waiting, count, &bytes[..room]);
+        let first = sha256::after_blocks(words, &full);
+        let after = &bytes[room..];
+        let next = sha256::after_blocks(first, after);
+        let left = rest_waiting(after);
         let over = after.len() % 64;
         Running {
             words: next,
@@ -143,12 +143,12 @@ impl Running {
         }
     }
 
-    // Feeds s. A refusal, 25, hands back what it got.
-    pub fn feed(self, s: &[u8]) -> Fed
-        ensures { λ r. ⌜ r ≡ Spec.feeding Sha256.sha256 self (now (s .entry)) ⌝ }
+    // Feeds `bytes`. A refusal, 25, hands back what it got.
+    pub fn feed(self, bytes: &[u8]) -> Fed
+        ensures { λ r. ⌜ r ≡ Spec.feeding Sha256.sha256 self (now (bytes .entry)) ⌝ }
     {
-        if self.accepts(s.len()) {
-            let next = self.fed(s);
+        if self.accepts(bytes.len()) {
+            let next = self.fed(bytes);
             Fed {
                 answer: Answer::accepted(0),
                 running: next,
@@ -170,9 +170,9 @@ impl Running {
         let words = self.words;
         let waiting = self.waiting;
         let bits = bytes::number_bytes(8 * self.total);
-        let n = padding::ending_size(count);
-        let end = padding::ending(waiting, count, bits, n);
-        let h = sha256::blocks(words, &end[..n]);
+        let n = padding::padded_size(count);
+        let end = padding::padded(waiting, count, bits, n);
+        let h = sha256::after_blocks(words, &end[..n]);
         bytes::word_bytes(h)
     }
 

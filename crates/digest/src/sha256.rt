@@ -89,7 +89,6 @@ pub(crate) const START: [u32; 8] = [
     0x5be0cd19,
 ];
 
-// The working variables.
 pub(crate) struct Working {
     pub a: u32,
     pub b: u32,
@@ -101,7 +100,6 @@ pub(crate) struct Working {
     pub h: u32,
 }
 
-// Word i of a block.
 fn word(block: &[u8], i: usize) -> u32
     requires { ⌜ (i < 16) × (length (now block) ≡ 64) ⌝ }
     ensures { λ r. ⌜ r ≡ Spec.wordOf (now (block .entry)) i ⌝ }
@@ -169,7 +167,6 @@ fn initialized(h: [u32; 8]) -> Working
     }
 }
 
-// One round.
 fn round(v: Working, k: u32, w: u32) -> Working
     ensures { λ r. ⌜ r ≡ Spec.round k w v ⌝ }
 {
@@ -239,15 +236,15 @@ fn compressed(h: [u32; 8], k: &[u32; 64], block: &[u8]) -> [u32; 8]
     added(v, h)
 }
 
-// The hash value after all whole blocks of s. The table of constants is lent once for all of them: `&K` copies it.
-pub(crate) fn blocks(start: [u32; 8], s: &[u8]) -> [u32; 8]
-    ensures { λ r. ⌜ r ≡ afterBlocks Spec.compressed start (now (s .entry)) ⌝ }
+// The hash value after all whole blocks. The table of constants is lent once for all of them: `&K` copies it.
+pub(crate) fn after_blocks(start: [u32; 8], bytes: &[u8]) -> [u32; 8]
+    ensures { λ r. ⌜ r ≡ afterBlocks Spec.compressed start (now (bytes .entry)) ⌝ }
 {
     let k = &K;
     let mut h = start;
     let mut at: usize = 0;
-    while 64 <= s.len() - at {
-        let next = compressed(h, k, &s[at..at + 64]);
+    while 64 <= bytes.len() - at {
+        let next = compressed(h, k, &bytes[at..at + 64]);
         h = next;
         at += 64;
     }

@@ -45,7 +45,8 @@ module _ (m : List ℕ) (s : Running) (at n : ℕ) (f : Fed) (h : SoFar m s at) 
         within = omega (arith, rw joined at (taken .1));
       }
 
-  pub so-far-refused : (f .answer .number ≡ 0 → ⊥) → _≡_ {A = Hashed} (record { answer = f .answer; digest = replicate 32 0 }) (hashing sha256 m)
+  pub so-far-refused : (f .answer .number ≡ 0 → ⊥)
+      → _≡_ {A = Hashed} (record { answer = f .answer; digest = replicate 32 0 }) (hashing sha256 m)
   so-far-refused z =
       part-refused sha256 (take at m) (take n (drop at m)) f m feeding-is z (simp (length-take, length-drop) (omega (arith, h .inside)))
 

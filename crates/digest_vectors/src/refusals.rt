@@ -1,9 +1,7 @@
 // Every kind of 25, and the neighbour that is accepted.
 use crate::print;
+use digest::running::LIMIT;
 use digest::running::Running;
-
-// The most bytes that a running digest takes.
-const LIMIT: u64 = 2305843009213693951;
 
 // Byte i of the waiting bytes: `count` letters, `after` behind them, and zeros.
 fn byte(i: usize, count: usize, after: u8) -> u8 {
@@ -54,7 +52,7 @@ fn same(a: Running, b: Running) -> bool {
     a.total == b.total
 }
 
-fn kept(a: Running, b: Running) {
+fn print_kept(a: Running, b: Running) {
     if same(a, b) {
         print::text(b"kept");
     } else {
@@ -70,7 +68,7 @@ fn run_finish(name: &[u8], s: Running) {
     print::text(name);
     print::text(b"finish");
     print::answer(answer);
-    kept(s, back);
+    print_kept(s, back);
     print::digest(digest);
 }
 
@@ -85,7 +83,7 @@ fn run_feed(name: &[u8], s: Running, bytes: &[u8]) {
     print::text(b"feed");
     print::decimal(bytes.len());
     print::answer(answer);
-    kept(s, next);
+    print_kept(s, next);
     print::decimal(next.count);
     print::digest(digest);
 }
@@ -95,13 +93,18 @@ fn run_one(name: &[u8], s: Running, bytes: &[u8]) {
     run_feed(name, s, bytes);
 }
 
-pub(crate) fn run() {
+// 25: "running digest not a possible one", with possible neighbours.
+fn run_possible() {
     run_one(b"possible", state(3, 0, 3), b"bbbbb");
     run_one(b"possible-after-blocks", state(63, 0, 191), &[0x62u8; 200]);
     run_one(b"count-above-total", state(1, 0, 0), b"b");
     run_one(b"count-below-total", state(2, 0, 3), b"b");
     run_one(b"count-of-a-block", state(64, 0, 64), b"b");
     run_one(b"byte-past-the-waiting", state(3, 1, 3), b"b");
+}
+
+// 25: "total past 2^61 - 1 bytes (also after the feeding asked for)", with neighbours within the limit.
+fn run_totals() {
     run_one(b"total-at-the-limit", state(63, 0, LIMIT), b"");
     run_one(
         b"total-at-the-limit-and-one-more",
@@ -112,4 +115,9 @@ pub(crate) fn run() {
     run_one(b"largest-total", state(63, 0, 18446744073709551615), b"b");
     run_one(b"feeding-to-the-limit", state(62, 0, LIMIT - 1), b"b");
     run_one(b"feeding-past-the-limit", state(62, 0, LIMIT - 1), b"bb");
+}
+
+pub(crate) fn run() {
+    run_possible();
+    run_totals();
 }

@@ -44,6 +44,15 @@ fn run_letters(letters: &[u8], n: usize) {
     }
 }
 
+// Messages of one letter, of each of the lengths.
+fn run_lengths(letters: &[u8]) {
+    let mut i: usize = 0;
+    while i < 13 {
+        run_letters(letters, LENGTHS[i]);
+        i += 1;
+    }
+}
+
 // A million times the letter a.
 fn million() -> [u8; 1000000] {
     [0x61u8; 1000000]
@@ -61,10 +70,6 @@ pub(crate) fn run() {
         b"abcdefghbcdefghicdefghijdefghijkefghijklfghijklmghijklmnhijklmnoijklmnopjklmnopqklmnopqrlmnopqrsmnopqrstnopqrstu",
     );
     let letters = million();
-    let mut i: usize = 0;
-    while i < 13 {
-        run_letters(&letters, LENGTHS[i]);
-        i += 1;
-    }
+    run_lengths(&letters);
     run_one(b"million", &letters);
 }

@@ -3,7 +3,6 @@ use Prim.Native.Nat.{_/_}
 use mathlib.Core.Path.{_≡_, refl}
 use Rattle.digest.specs.Lists.{tabulate}
 use Rattle.digest.specs.Padding.{byteOf, bytesOf}
-use Prim.Native.Nat.{ℕ, _+_, _-_, _*_, _<_, _≤_}
 use borrow.Author.Needs.{needs}
 use Rattle.digest.proofs.bytes.number_bytes.Statement.{statement}
 use Rattle.digest.proofs.bytes.number_bytes.Tie as tie

@@ -18,7 +18,8 @@ feed-requires : tie.Need-feed-requires
 feed-requires c κs = search needs
 
 -- the message is fed to the running digest of no bytes
-fed-whole : (m : List ℕ) (s : Running) (f : Fed) → s ≡ start sha256 → f ≡ feeding sha256 s m → f ≡ feeding sha256 (fed sha256 (start sha256) []) m
+fed-whole : (m : List ℕ) (s : Running) (f : Fed) → s ≡ start sha256 → f ≡ feeding sha256 s m
+    → f ≡ feeding sha256 (fed sha256 (start sha256) []) m
 fed-whole m s f e p = p ∙ ap (λ (t : Running). feeding sha256 t m) (e ∙ start-fed sha256)
 
 returns : tie.Need-returns

@@ -1,3 +1,4 @@
+use mathlib.Core.List.{[], _∷_}
 use Rattle.digest.specs.Sha256.{added}
 use borrow.Author.Needs.{needs}
 use Rattle.digest.proofs.sha256.added.Statement.{statement}
@@ -53,7 +54,15 @@ wrapping-add-u32-requires-8 c κs = search needs
 
 returns : tie.Need-returns
 unfolding added
-returns c = cc
+returns c =
+    let b₂ = c .before .before in
+    let b₄ = b₂ .before .before in
+    let b₆ = b₄ .before .before in
+    λ i.
+    b₆ .before .wrapping-add-u32 .ensures i ∷ b₆ .wrapping-add-u322 .ensures i
+    ∷ b₄ .before .wrapping-add-u323 .ensures i ∷ b₄ .wrapping-add-u324 .ensures i
+    ∷ b₂ .before .wrapping-add-u325 .ensures i ∷ b₂ .wrapping-add-u326 .ensures i
+    ∷ c .before .wrapping-add-u327 .ensures i ∷ c .wrapping-add-u328 .ensures i ∷ []
 
 pub added-spec : {M : Type 1} → statement M
 added-spec =

@@ -1,4 +1,6 @@
-use Rattle.digest.specs.Sha256.{compressed}
+use mathlib.Core.Path.{ap, ap₂, _∙_}
+use Rattle.digest.specs.Sha256.{rounds, added, compressed}
+use Rattle.digest.specs.declared.sha256.Working.{Working}
 use borrow.Author.Needs.{needs}
 use Rattle.digest.proofs.sha256.compressed.Statement.{statement}
 use Rattle.digest.proofs.sha256.compressed.Tie as tie
@@ -17,7 +19,10 @@ added-requires c κs = search needs
 
 returns : tie.Need-returns
 unfolding compressed
-returns c = cc
+returns c =
+    let start = c .before .before .before .before .before .before in
+    let v = c .before .rounds .ensures ∙ ap₂ (rounds 64) (c .before .before .before .before .schedule .ensures) (c .before .before .before .initialized .ensures) in
+    c .added .ensures ∙ ap (λ (u : Working). added u (start .args .h)) v
 
 pub compressed-spec : {M : Type 1} → statement M
 compressed-spec =

@@ -1,3 +1,6 @@
+use Prim.Native.Nat.{ℕ, _+_, _-_, _%_, _^_}
+use mathlib.Core.Path.{ap₂, _∙_}
+use Rattle.digest.specs.Lists.{at}
 use Rattle.digest.specs.Sha256.{nextWord}
 use Rattle.digest.proofs.Rounds.{sum-more}
 use borrow.Author.Needs.{needs}
@@ -58,9 +61,13 @@ wrapping-add-u32-requires-3 c κs = search needs
 returns : tie.Need-returns
 unfolding nextWord
 returns c =
+    let b₅ = c .before .before .before .before .before in
+    let args = b₅ .before .before .before .before .args in
+    let w = args .w .now in
     let three = sum-more _ _ (c .before .before .before .wrapping-add-u32 .ensures) (c .before .before .wrapping-add-u322 .ensures) in
     let four = sum-more _ _ three (c .wrapping-add-u323 .ensures) in
-    cc
+    four
+    ∙ ap₂ (λ (s₁ s₀ : ℕ). (s₁ + at w (args .t - 7) + s₀ + at w (args .t - 16)) % 2 ^ 32) (b₅ .before .before .small-sigma1 .ensures) (b₅ .small-sigma0 .ensures)
 
 pub next-word-spec : {M : Type 1} → statement M
 next-word-spec =

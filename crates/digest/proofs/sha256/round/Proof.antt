@@ -1,3 +1,5 @@
+use Prim.Native.Nat.{ℕ, _+_, _%_, _^_}
+use mathlib.Core.Path.{ap, ap₂, _∙_}
 use Rattle.digest.specs.Sha256.{round}
 use Rattle.digest.proofs.Rounds.{sum-more}
 use borrow.Author.Needs.{needs}
@@ -44,8 +46,15 @@ returns c =
     let b₈ = b₅ .before .before .before in
     let three = sum-more _ _ (b₈ .wrapping-add-u32 .ensures) (b₅ .before .before .wrapping-add-u322 .ensures) in
     let four = sum-more _ _ three (b₅ .before .wrapping-add-u323 .ensures) in
-    let t₁ = sum-more _ _ four (b₅ .wrapping-add-u324 .ensures) in
-    cc
+    let args = b₈ .before .before .before .args in
+    let v = args .v in
+    let t₁ = sum-more _ _ four (b₅ .wrapping-add-u324 .ensures)
+    ∙ ap₂ (λ (s x : ℕ). (v .h + s + x + args .k + args .w) % 2 ^ 32) (b₈ .before .before .big-sigma1 .ensures) (b₈ .before .ch .ensures) in
+    let t₂ = c .before .before .wrapping-add-u325 .ensures
+    ∙ ap₂ (λ (s x : ℕ). (s + x) % 2 ^ 32) (c .before .before .before .before .big-sigma0 .ensures) (c .before .before .before .maj .ensures) in
+    let a = c .before .wrapping-add-u326 .ensures ∙ ap₂ (λ (x y : ℕ). (x + y) % 2 ^ 32) t₁ t₂ in
+    let e = c .wrapping-add-u327 .ensures ∙ ap (λ (x : ℕ). (v .d + x) % 2 ^ 32) t₁ in
+    λ i. record { a = a i; b = v .a; c = v .b; d = v .c; e = e i; f = v .e; g = v .f; h = v .g }
 
 pub round-spec : {M : Type 1} → statement M
 round-spec =

@@ -1,5 +1,4 @@
 use Rattle.digest.specs.Sha256.{wordOf}
-use Prim.Native.Nat.{ℕ, _+_, _-_, _*_, _<_, _≤_}
 use borrow.Author.Needs.{needs}
 use Rattle.digest.proofs.sha256.word.Statement.{statement}
 use Rattle.digest.proofs.sha256.word.Tie as tie

@@ -1,3 +1,4 @@
+use lib.Bits.{bitXor}
 use Rattle.digest.specs.Words as Words
 use borrow.Author.Needs.{needs}
 use Rattle.digest.proofs.words.small_sigma1.Statement.{statement}
@@ -11,7 +12,7 @@ rotr-requires-2 c κs = search needs
 
 returns : tie.Need-returns
 unfolding Words.smallSigma1
-returns c = cc
+returns c = λ i. bitXor (bitXor (c .before .rotr .ensures i) (c .rotr2 .ensures i)) (Words.shr 10 (c .before .before .args .x))
 
 pub small-sigma1-spec : {M : Type 1} → statement M
 small-sigma1-spec = tie.close (tie.spec rotr-requires rotr-requires-2 returns)

@@ -30,11 +30,11 @@ slice-aggregate-filled c = simp length-take (omega arith)
 filled-requires-2 : tie.Need-filled-requires-2
 filled-requires-2 c κs = simp length-take (omega arith)
 
-slice-aggregate-blocks : tie.Need-slice-aggregate-blocks
-slice-aggregate-blocks c = search needs
+slice-aggregate-after-blocks : tie.Need-slice-aggregate-after-blocks
+slice-aggregate-after-blocks c = search needs
 
-blocks-requires : tie.Need-blocks-requires
-blocks-requires c κs = search needs
+after-blocks-requires : tie.Need-after-blocks-requires
+after-blocks-requires c κs = search needs
 
 sub-after : tie.Need-sub-after
 sub-after c = search needs
@@ -45,20 +45,20 @@ part-after-start c = search needs
 part-after-end : tie.Need-part-after-end
 part-after-end c = search needs
 
-blocks-requires-2 : tie.Need-blocks-requires-2
-blocks-requires-2 c κs = search needs
+after-blocks-requires-2 : tie.Need-after-blocks-requires-2
+after-blocks-requires-2 c κs = search needs
 
-kept-requires : tie.Need-kept-requires
-kept-requires c κs = search needs
+rest-waiting-requires : tie.Need-rest-waiting-requires
+rest-waiting-requires c κs = search needs
 
 returns-2 : tie.Need-returns-2
 returns-2 c =
     let start = c .before .before .before .before .before .before .before .before .before .before .before .before in
     let at-first = c .before .before .before in
     let full = at-first .before .before .filled2 .ensures in
-    let after = part-to-end (start .args .s .now) (64 - start .args .self .count) in
-    fed-many sha256 _ _ (search needs) _ _ _ _ _ (omega (arith, start .pre .counted)) (omega arith) full (at-first .blocks2 .ensures) after
-    (c .before .blocks3 .ensures) (c .kept .ensures)
+    let after = part-to-end (start .args .bytes .now) (64 - start .args .self .count) in
+    fed-many sha256 _ _ (search needs) _ _ _ _ _ (omega (arith, start .pre .counted)) (omega arith) full (at-first .after-blocks .ensures) after
+    (c .before .after-blocks2 .ensures) (c .rest-waiting .ensures)
 
 pub fed-spec : {M : Type 1} → statement M
 fed-spec =
@@ -71,11 +71,11 @@ fed-spec =
     returns
     slice-aggregate-filled
     filled-requires-2
-    slice-aggregate-blocks
-    blocks-requires
+    slice-aggregate-after-blocks
+    after-blocks-requires
     sub-after
     part-after-start
     part-after-end
-    blocks-requires-2
-    kept-requires
+    after-blocks-requires-2
+    rest-waiting-requires
     returns-2)

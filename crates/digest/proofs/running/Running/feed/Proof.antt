@@ -19,10 +19,14 @@ refused-requires : tie.Need-refused-requires
 refused-requires c κs = search needs
 
 returns : tie.Need-returns
-returns c = cc (feeding-accepted sha256 _ _ (sym (c .before .before .before .accepts .ensures) ∙ c .before .before .if1 .taken))
+returns c =
+    (λ i. record { answer = c .accepted .ensures i; running = c .before .fed .ensures i })
+    ∙ sym (feeding-accepted sha256 _ _ (sym (c .before .before .before .accepts .ensures) ∙ c .before .before .if1 .taken))
 
 returns-2 : tie.Need-returns-2
-returns-2 c = cc (feeding-refused sha256 _ _ (sym (c .before .before .accepts .ensures) ∙ c .before .if1 .left))
+returns-2 c =
+    (λ i. record { answer = c .refused .ensures i; running = c .before .before .before .before .args .self })
+    ∙ sym (feeding-refused sha256 _ _ (sym (c .before .before .accepts .ensures) ∙ c .before .if1 .left))
 
 pub feed-spec : {M : Type 1} → statement M
 feed-spec =

@@ -1,4 +1,5 @@
 use mathlib.Core.Path.{sym, _∙_}
+use lib.ListN.{replicate}
 use Rattle.digest.specs.Sha256.{sha256}
 use Rattle.digest.proofs.Steps.{ready}
 use Rattle.digest.proofs.Answers.{finishing-accepted, finishing-refused}
@@ -19,10 +20,16 @@ refused-requires : tie.Need-refused-requires
 refused-requires c κs = search needs
 
 returns : tie.Need-returns
-returns c = cc (finishing-accepted sha256 _ (sym (c .before .before .before .accepts .ensures) ∙ c .before .before .if1 .taken))
+returns c =
+    let self = c .before .before .before .before .args .self in
+    (λ i. record { answer = c .accepted .ensures i; digest = c .before .finished .ensures i; running = self })
+    ∙ sym (finishing-accepted sha256 self (sym (c .before .before .before .accepts .ensures) ∙ c .before .before .if1 .taken))
 
 returns-2 : tie.Need-returns-2
-returns-2 c = cc (finishing-refused sha256 _ (sym (c .before .before .accepts .ensures) ∙ c .before .if1 .left))
+returns-2 c =
+    let self = c .before .before .before .args .self in
+    (λ i. record { answer = c .refused .ensures i; digest = replicate 32 0; running = self })
+    ∙ sym (finishing-refused sha256 self (sym (c .before .before .accepts .ensures) ∙ c .before .if1 .left))
 
 pub finish-spec : {M : Type 1} → statement M
 finish-spec =

@@ -1,5 +1,4 @@
--- For inner contracts only; a reader need not believe it.
--- Assumes nothing.
+-- For inner contracts; no part of what a reader has to believe. Assumes nothing.
 use Prim.Native.Nat.{ℕ, _+_, _%_, _≤_}
 use mathlib.Core.Path.{_≡_}
 use mathlib.Core.Bool.{true}

@@ -1,8 +1,8 @@
 use mathlib.Core.Path.{refl, _∙_}
-use Rattle.digest.proofs.Steps.{kept-rest}
+use Rattle.digest.proofs.Steps.{rest-in-zeros}
 use borrow.Author.Needs.{needs}
-use Rattle.digest.proofs.running.kept.Statement.{statement}
-use Rattle.digest.proofs.running.kept.Tie as tie
+use Rattle.digest.proofs.running.rest_waiting.Statement.{statement}
+use Rattle.digest.proofs.running.rest_waiting.Tie as tie
 
 sub-from : tie.Need-sub-from
 sub-from c = search needs
@@ -20,9 +20,9 @@ filled-requires : tie.Need-filled-requires
 filled-requires c κs = search needs
 
 returns : tie.Need-returns
-returns c = c .filled .ensures ∙ kept-rest _ _ _ refl refl
+returns c = c .filled .ensures ∙ rest-in-zeros _ _ _ refl refl
 
-pub kept-spec : {M : Type 1} → statement M
-kept-spec =
+pub rest-waiting-spec : {M : Type 1} → statement M
+rest-waiting-spec =
     tie.close
     (tie.spec sub-from sub-filled part-filled-start part-filled-end filled-requires returns)

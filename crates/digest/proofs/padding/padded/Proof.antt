@@ -2,10 +2,10 @@ use native.Mathlib.Omega.{arith}
 use mathlib.Core.Path.{_≡_, sym}
 use lib.ListN.{length, take, length-take, length-set}
 use lib.Seq.{length-take-le}
-use Rattle.digest.proofs.Ending.{ending-stores}
+use Rattle.digest.proofs.Padded.{padded-stores}
 use borrow.Author.Needs.{needs}
-use Rattle.digest.proofs.padding.ending.Statement.{statement}
-use Rattle.digest.proofs.padding.ending.Tie as tie
+use Rattle.digest.proofs.padding.padded.Statement.{statement}
+use Rattle.digest.proofs.padding.padded.Tie as tie
 
 slice-aggregate-put : tie.Need-slice-aggregate-put
 slice-aggregate-put c = search needs
@@ -41,11 +41,11 @@ returns : tie.Need-returns
 returns c =
     let args = c .before .before .before .before .before .before .before .before .args in
     let first = c .before .before .before .before .before .put .ensures in
-    ending-stores (take (args .count) (args .t1)) (args .t3) _ _ 0x80 (args .n) (args .count) (length-take-le _ _ (search needs)) (search needs) (search needs)
+    padded-stores (take (args .count) (args .t1)) (args .t3) _ _ 0x80 (args .n) (args .count) (length-take-le _ _ (search needs)) (search needs) (search needs)
     (search needs) first (c .before .put2 .ensures)
 
-pub ending-spec : {M : Type 1} → statement M
-ending-spec =
+pub padded-spec : {M : Type 1} → statement M
+padded-spec =
     tie.close
     (tie.spec
     slice-aggregate-put

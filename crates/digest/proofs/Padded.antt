@@ -1,4 +1,4 @@
--- The end of a message: the waiting bytes and the padding after them.
+-- The waiting bytes and the padding after them: the stores that make them, and the blocks that they fill.
 -- Assumes nothing.
 use Prim.Native.Nat.{ℕ, suc, _+_, _-_, _%_, _<_, _≤_}
 use mathlib.Core.Path.{_≡_, refl, sym, ap, ap₂, _∙_}
@@ -10,14 +10,15 @@ use lib.Dec.{ltb}
 use lib.ListN.{length, set, take, replicate, length-append, length-replicate}
 use lib.Seq.{paste, take-paste, take-length, take-all, take-append-add, set-append-seam}
 use Rattle.answer.specs.If.{if_then_else_}
-use Rattle.digest.specs.Padding.{zerosAfter}
+use Rattle.digest.specs.Padding.{ByteOrder, bytesOf, zerosAfter, padding}
 use Rattle.digest.specs.Theorems.{FewestZeros}
+use Rattle.digest.proofs.Tables.{length-tabulate}
 use Rattle.digest.proofs.Zeros.{drop-replicate, take-replicate}
 
 -- w, then the byte x, then zeros, then the eight bytes of `bits`, n bytes in all: the stores that make it
-ending-at : (w bits : List ℕ) (x n : ℕ) → length bits ≡ 8 → length w + 9 ≤ n → n ≤ 128
+padded-at : (w bits : List ℕ) (x n : ℕ) → length bits ≡ 8 → length w + 9 ≤ n → n ≤ 128
     → take n (paste (set (paste (replicate 128 0) 0 w (length w)) (length w) x) (n - 8) bits 8) ≡ w ++ (x ∷ (replicate (n - 9 - length w) 0 ++ bits))
-ending-at w bits x n e h l =
+padded-at w bits x n e h l =
     let c = length w in
     let R : List ℕ = replicate (127 - c) 0 in
     let m : 128 - (0 + c) ≡ suc (127 - c) = omega arith in
@@ -34,17 +35,22 @@ ending-at w bits x n e h l =
     ∙ append-assoc w (x ∷ replicate (n - 9 - c) 0) bits
 
 -- the same, as the code's stores come: b₁ after the first, b₂ after the last
-pub ending-stores : (w bits b₁ b₂ : List ℕ) (x n c : ℕ) → length w ≡ c → length bits ≡ 8 → c + 9 ≤ n → n ≤ 128
+pub padded-stores : (w bits b₁ b₂ : List ℕ) (x n c : ℕ) → length w ≡ c → length bits ≡ 8 → c + 9 ≤ n → n ≤ 128
     → b₁ ≡ paste (replicate 128 0) 0 w (length w) → b₂ ≡ paste (set b₁ c x) (n - 8) bits (length bits)
     → take n b₂ ≡ w ++ (x ∷ (replicate (n - 9 - c) 0 ++ bits))
-ending-stores w bits b₁ b₂ x n c lw ls h l e₁ e₂ =
+padded-stores w bits b₁ b₂ x n c lw ls h l e₁ e₂ =
     ap (take n) (e₂ ∙ ap₂ (λ (b : List ℕ) (k : ℕ). paste (set b c x) (n - 8) bits k) e₁ ls
     ∙ ap (λ (k : ℕ). paste (set (paste (replicate 128 0) 0 w (length w)) k x) (n - 8) bits 8) (sym lw))
-    ∙ ending-at w bits x n ls (omega arith) l ∙ ap (λ (k : ℕ). w ++ (x ∷ (replicate (n - 9 - k) 0 ++ bits))) lw
+    ∙ padded-at w bits x n ls (omega arith) l ∙ ap (λ (k : ℕ). w ++ (x ∷ (replicate (n - 9 - k) 0 ++ bits))) lw
+
+-- the byte 0x80, the zeros and the eight bytes of the length
+length-padding : (order : ByteOrder) (n : ℕ) → length (padding order n) ≡ zerosAfter n + 9
+unfolding padding bytesOf
+length-padding order n = simp (length-append, length-replicate, length-tabulate) (omega arith)
 
 -- FIPS 180-4, 5.1.1
 pub fewest-zeros : (n : ℕ) → FewestZeros n
-fewest-zeros n = record { solves = omega arith; smallest = λ k e. omega arith }
+fewest-zeros n = record { solves = omega arith; smallest = λ k e. omega arith; whole = λ order. omega (arith, length-padding order n) }
 
 -- ---- one block or two
 -- n bytes hold the waiting bytes, the byte 0x80 and the length, and the zeros between are those of the padding

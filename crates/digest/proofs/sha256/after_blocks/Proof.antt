@@ -8,14 +8,14 @@ use Rattle.digest.proofs.Chain.{chain-next}
 use borrow.Author.Needs.{needs}
 use Prim.Native.Nat.{_-_, _≤_}
 use lib.ListN.{length}
-use Rattle.digest.proofs.sha256.blocks.Statement.{statement}
-use Rattle.digest.proofs.sha256.blocks.Tie as tie
+use Rattle.digest.proofs.sha256.after_blocks.Statement.{statement}
+use Rattle.digest.proofs.sha256.after_blocks.Tie as tie
 
 abbrev Inv-loop : tie.InvT-loop
-Inv-loop s k h₀ at₀ h at = (at ≤ length s) × (at % 64 ≡ 0) × (h ≡ chain compressed (at / 64) h₀ s)
+Inv-loop bytes k h₀ at₀ h at = (at ≤ length bytes) × (at % 64 ≡ 0) × (h ≡ chain compressed (at / 64) h₀ bytes)
 
 abbrev μ-loop : tie.MeasureT-loop
-μ-loop s k h₀ at₀ h at = length s - at
+μ-loop bytes k h₀ at₀ h at = length bytes - at
 
 loop-holds : tie.Need-loop-holds Inv-loop μ-loop
 unfolding chain
@@ -54,11 +54,11 @@ loop-again c =
 returns : tie.Need-returns Inv-loop μ-loop
 unfolding afterBlocks
 returns c =
-    let e : c .before .loop .at / 64 ≡ length (c .before .before .before .before .args .s .now) / 64 = omega arith in
+    let e : c .before .loop .at / 64 ≡ length (c .before .before .before .before .args .bytes .now) / 64 = omega arith in
     rw e at (c .before .loop .inv .2)
 
-pub blocks-spec : {M : Type 1} → statement M
-blocks-spec =
+pub after-blocks-spec : {M : Type 1} → statement M
+after-blocks-spec =
     tie.close
     (tie.spec
     Inv-loop
