@@ -13,6 +13,7 @@ pub mod Walks
 pub mod FragmentsSteps
 pub mod ElementSteps
 pub mod OneWalks
+pub mod ElementsLoop
 pub mod ElementsSteps
 pub mod ItemsSteps
 pub mod OwnSteps

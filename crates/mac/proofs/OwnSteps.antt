@@ -3,29 +3,28 @@ use Prim.Native.Nat.{ℕ, _+_, _-_, _≤_, _<_}
 use mathlib.Core.Path.{_≡_, refl, ap, _∙_}
 use mathlib.Core.Bool.{Bool, true, false, _||_}
 use mathlib.Core.List.{List, _++_}
-use native.Mathlib.Omega.{arith}
 use borrow.Author.Tests.{eq-eqb}
 use lib.ListN.{length}
 use Rattle.answer.specs.declared.Answer.{Answer}
 use Rattle.answer.specs.If.{if_then_else_}
-use Rattle.dataset.specs.Tree.{Element, Elements, none, and, tagOf}
-use Rattle.dataset.specs.Reading.{Reading, One, element, explicit, byOne, elementsAt, oneAt}
+use Rattle.dataset.specs.Tree.{Element, Elements, and, tagOf}
+use Rattle.dataset.specs.Reading.{Reading, One, element}
 use Rattle.mac.specs.TagList.{barred}
 use Rattle.mac.specs.Stream.{elementsStream}
 use Rattle.mac.specs.UN.{isUN, holdsUN}
 use Rattle.mac.specs.SignatureMode.{named, leftOut, own}
 use Rattle.mac.specs.Inner.Keep.{keeps}
-use Rattle.mac.specs.Inner.Writer.{walked, oneStream, oneWalked, Walk, holdsNone}
-use Rattle.mac.specs.Inner.Extent.{Lies, elementsIn}
-use Rattle.mac.specs.Inner.Own.{ownStream, ownKeep}
+use Rattle.mac.specs.Inner.Writer.{oneStream, oneWalked, OneWalk, holdsNone}
+use Rattle.mac.specs.Inner.Extent.{Lies}
+use Rattle.mac.specs.Inner.Own.{ownStream, ownKeep, OwnWalk}
 use Rattle.mac.specs.declared.extent.Extent.{Extent}
 use Rattle.mac.specs.declared.keep.Keep.{Keep}
 use Rattle.mac.specs.declared.keep.Keep.the-variants as keep
 use Rattle.mac.specs.declared.writer.Written.the-variants as written
 use Rattle.mac.specs.declared.writer.OneWritten.{OneWritten}
 use Rattle.mac.specs.declared.writer.OneWritten.the-variants as one
-use Rattle.mac.proofs.Walks.{Front, Going, start, go-on, stop-at, done}
-use Rattle.mac.proofs.OneWalks as walk
+use Rattle.mac.proofs.ElementsLoop.{Loop, loop-start, loop-refused, loop-end, loop-less, found-here, loop-again}
+use Rattle.mac.proofs.Walks.{Front}
 use Rattle.mac.proofs.OwnContent.{own-unbarred}
 
 -- ---- own_keep
@@ -48,13 +47,11 @@ module _ (seen : OneWritten) (tag : ℕ) (unknown holds : Bool) (next to : ℕ) 
   only-keep t = rw (e, ← q, t)
 
 -- ---- write_own
-pub record OwnLoop (d : List ℕ) (x : Extent) (xs₀ : List ℕ) (to₀ : ℕ) (xs : List ℕ) (at least to : ℕ) : Type 0 where
-  pub inside : at ≤ x .stop
-  pub below : to ≤ at + length d
-  pub going : Going holdsNone ownStream d (elementsIn d x) to₀ xs₀ (elementsAt explicit d (x .delimited) (x .left) (x .stop) at least) false to xs
+abbrev pub OwnLoop : (d : List ℕ) (x : Extent) (xs₀ : List ℕ) (to₀ : ℕ) (xs : List ℕ) (at least to : ℕ) → Type 0
+OwnLoop d x xs₀ to₀ xs at least to = Loop holdsNone ownStream d (x .delimited) (x .left) (x .stop) (x .from) xs₀ to₀ xs at least false to
 
 pub own-start : (d : List ℕ) (x : Extent) (xs : List ℕ) (to : ℕ) → Lies d x → to ≤ x .from + length d → OwnLoop d x xs to xs (x .from) 0 to
-own-start d x xs to l h = record { inside = l .order; below = h; going = start holdsNone ownStream d (elementsIn d x) to xs }
+own-start d x xs to l h = loop-start holdsNone ownStream d (x .delimited) (x .left) (x .stop) (x .from) xs to h (l .order)
 
 -- what is kept of an element that was seen is what the signature item's own elements begin with
 own-front : (d : List ℕ) (e : Element) (next past : ℕ) (c : Keep) → c ≡ ownKeep (one.Element (tagOf e) (isUN e) (holdsUN e) next past)
@@ -68,41 +65,23 @@ own-front d e next past c q = record { streams = λ es. go (leftOut e) refl es; 
 
 -- seen is what the first walk answers in an element's place, c what is kept, r what the second walk answers, and ys what it leaves
 module _ (d : List ℕ) (x : Extent) (xs₀ : List ℕ) (to₀ : ℕ) (xs : List ℕ) (at least to : ℕ) (c : Keep) (r : OneWritten) (ys : List ℕ)
-    (w : Walk (oneWalked (keeps c)) (oneStream (keeps c)) (oneAt explicit d (x .delimited) (x .left) (x .stop) at least) d to r xs ys)
-    (i : OwnLoop d x xs₀ to₀ xs at least to) where
-  pub own-refused : (f : Answer) → r ≡ one.Refused f → Walk (walked holdsNone ownStream) ownStream (elementsIn d x) d to₀ (written.Refused f) xs₀ ys
-  own-refused f q =
-      stop-at holdsNone ownStream d (elementsIn d x) to₀ xs₀ (elementsAt explicit d (x .delimited) (x .left) (x .stop) at least) false to xs (i .going) f ys
-      (walk.one-fault (keeps c) d (x .delimited) (x .left) (x .stop) at least to r xs ys (i .inside) w f q)
+    (w : OneWalk c d (x .delimited) (x .left) (x .stop) at least to r xs ys) (i : OwnLoop d x xs₀ to₀ xs at least to) where
+  pub own-refused : (f : Answer) → r ≡ one.Refused f → OwnWalk d x to₀ (written.Refused f) xs₀ ys
+  own-refused f q = loop-refused holdsNone ownStream d (x .delimited) (x .left) (x .stop) (x .from) xs₀ to₀ xs at least false to c r ys w i f q
 
-  pub own-end : (next : ℕ) → r ≡ one.End next → Walk (walked holdsNone ownStream) ownStream (elementsIn d x) d to₀ (written.Past false next to) xs₀ ys
-  unfolding byOne holdsNone ownStream own elementsStream
-  own-end next q =
-      done holdsNone ownStream d (elementsIn d x) to₀ xs₀ (elementsAt explicit d (x .delimited) (x .left) (x .stop) at least) false to xs (i .going) none next to ys
-      (walk.one-end (keeps c) d (x .delimited) (x .left) (x .stop) at least to r xs ys (i .inside) w next q) refl (omega arith)
-      (walk.end-output (keeps c) d (x .delimited) (x .left) (x .stop) at least to r xs ys (i .inside) w next q)
+  pub own-end : (next : ℕ) → r ≡ one.End next → OwnWalk d x to₀ (written.Past false next to) xs₀ ys
+  unfolding holdsNone ownStream own elementsStream
+  own-end next q = loop-end holdsNone ownStream d (x .delimited) (x .left) (x .stop) (x .from) xs₀ to₀ xs at least false to c r ys w i refl refl next q
 
   module _ (tag : ℕ) (unknown holds : Bool) (next past : ℕ) (q : r ≡ one.Element tag unknown holds next past) (l : Lies d x) where
     pub own-less : x .stop - next < x .stop - at
-    own-less =
-        let k = walk.one-lies (keeps c) d (x .delimited) (x .left) (x .stop) at least to r xs ys (i .inside) w tag unknown holds next past q (l .inside) in
-        omega (arith, k .past, k .inside)
+    own-less = loop-less holdsNone ownStream d (x .delimited) (x .left) (x .stop) (x .from) xs₀ to₀ xs at least false to c r ys w i tag unknown holds next past q (l .inside)
 
-    pub own-again : (seen : OneWritten) (to₁ : ℕ) (xs₁ ys₁ : List ℕ)
-        → Walk (oneWalked (keeps keep.Nothing)) (oneStream (keeps keep.Nothing)) (oneAt explicit d (x .delimited) (x .left) (x .stop) at least) d to₁ seen xs₁ ys₁
+    pub own-again : (seen : OneWritten) (to₁ : ℕ) (xs₁ ys₁ : List ℕ) → OneWalk keep.Nothing d (x .delimited) (x .left) (x .stop) at least to₁ seen xs₁ ys₁
         → c ≡ ownKeep seen → OwnLoop d x xs₀ to₀ ys next (tag + 1) past
     unfolding oneWalked
     own-again seen to₁ xs₁ ys₁ v u =
-        let e = walk.one-found (keeps c) d (x .delimited) (x .left) (x .stop) at least to r xs ys (i .inside) w tag unknown holds next past q in
-        let k = walk.one-lies (keeps c) d (x .delimited) (x .left) (x .stop) at least to r xs ys (i .inside) w tag unknown holds next past q (l .inside) in
-        let z = walk.one-below (keeps c) d (x .delimited) (x .left) (x .stop) at least to r xs ys (i .inside) w tag unknown holds next past q (l .inside) in
+        let e = found-here holdsNone ownStream d (x .delimited) (x .left) (x .stop) (x .from) xs₀ to₀ xs at least false to c r ys w i tag unknown holds next past q (l .inside) in
         let s = u ∙ ap ownKeep (v .answers ∙ ap (λ (p : Reading One). oneWalked (keeps keep.Nothing) p d to₁) (e .is)) in
-        record {
-          inside = k .inside;
-          below = omega (arith, z, i .below, k .past);
-          going = go-on holdsNone ownStream d (elementsIn d x) to₀ xs₀ (elementsAt explicit d (x .delimited) (x .left) (x .stop) at least) false to xs (i .going)
-              (and (e .what)) (oneStream (keeps c) (element (e .what)) d) false (own-front d (e .what) next _ c s)
-              (elementsAt explicit d (x .delimited) (x .left) (x .stop) next (tag + 1)) _ (λ es n. refl)
-              (walk.one-next (keeps c) d (x .delimited) (x .left) (x .stop) at least to r xs ys (i .inside) w tag unknown holds next past q) past ys (e .passes)
-              (walk.one-output (keeps c) d (x .delimited) (x .left) (x .stop) at least to r xs ys (i .inside) w tag unknown holds next past q);
-        }
+        loop-again holdsNone ownStream d (x .delimited) (x .left) (x .stop) (x .from) xs₀ to₀ xs at least false to c r ys w i tag unknown holds next past q (l .inside)
+        false (own-front d (e .what) next _ c s)

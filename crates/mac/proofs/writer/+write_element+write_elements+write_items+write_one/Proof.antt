@@ -1,6 +1,7 @@
 -- The cycle of calls. Levels fall: 4 left + 3 for the walk over elements, 4 left + 2 and 4 left + 1 for that over one element, 4 left for that over items.
--- Each place is a law of ElementSteps, ElementsSteps or ItemsSteps, which `search` applies to the facts there. Assumes nothing.
+-- Each place is a law of ElementSteps, ElementsLoop, ElementsSteps or ItemsSteps, which `search` applies to the facts there. Assumes nothing.
 use Rattle.mac.proofs.ElementSteps as element
+use Rattle.mac.proofs.ElementsLoop as loop
 use Rattle.mac.proofs.ElementsSteps as elements
 use Rattle.mac.proofs.ItemsSteps as items
 use borrow.Author.Needs.{needs}
@@ -196,7 +197,7 @@ abbrev write-elements-μ-loop : write-elements-lts.MeasureT-loop
 write-elements-μ-loop d delimited left stop from out₀ onto at₀ least₀ found₀ to₀ out at least found to = stop - at
 
 write-elements-loop-holds : (t : ℕ) → write-elements-lts.Need-loop-holds (write-elements-claims t) (write-elements-at t) write-elements.Post write-elements-Inv-loop write-elements-μ-loop
-write-elements-loop-holds t c = search elements.elements-start
+write-elements-loop-holds t c = search loop.loop-start
 
 write-elements-write-one-requires : (t : ℕ) → write-elements-lts.Need-write-one-requires (write-elements-claims t) (write-elements-at t) write-elements.Post write-elements-Inv-loop write-elements-μ-loop
 write-elements-write-one-requires t c κs = search needs
@@ -208,7 +209,7 @@ write-elements-same-length : (t : ℕ) → write-elements-lts.Need-same-length (
 write-elements-same-length t c = search needs
 
 write-elements-returns : (t : ℕ) → write-elements-lts.Need-returns (write-elements-claims t) (write-elements-at t) write-elements.Post write-elements-Inv-loop write-elements-μ-loop
-write-elements-returns t c = search elements.elements-refused
+write-elements-returns t c = search loop.loop-refused
 
 write-elements-enum-known-next : (t : ℕ) → write-elements-lts.Need-enum-known-next (write-elements-claims t) (write-elements-at t) write-elements.Post write-elements-Inv-loop write-elements-μ-loop
 write-elements-enum-known-next t c = search needs
@@ -229,7 +230,7 @@ write-elements-add-least : (t : ℕ) → write-elements-lts.Need-add-least (writ
 write-elements-add-least t c = search needs
 
 write-elements-loop-less : (t : ℕ) → write-elements-lts.Need-loop-less (write-elements-claims t) (write-elements-at t) write-elements.Post write-elements-Inv-loop write-elements-μ-loop
-write-elements-loop-less t c = search elements.elements-less
+write-elements-loop-less t c = search loop.loop-less
 
 write-elements-loop-again : (t : ℕ) → write-elements-lts.Need-loop-again (write-elements-claims t) (write-elements-at t) write-elements.Post write-elements-Inv-loop write-elements-μ-loop
 write-elements-loop-again t c = search elements.elements-again
