@@ -1,4 +1,3 @@
-pub mod Either
 pub mod Slices
 pub mod OutputSteps
 pub mod UN
@@ -8,7 +7,8 @@ pub mod StreamLength
 pub mod OwnContent
 pub mod SignatureAnswers
 pub mod TagListSteps
-pub mod Helpers
+pub mod KeepSteps
+pub mod WrittenSteps
 pub mod Walks
 pub mod FragmentsSteps
 pub mod ElementSteps
@@ -17,7 +17,7 @@ pub mod ElementsLoop
 pub mod ElementsSteps
 pub mod ItemsSteps
 pub mod OwnSteps
-pub mod MergeSteps
+pub mod ListedSteps
 pub mod Finding
 pub mod Merge
 pub mod ListSteps
@@ -27,7 +27,7 @@ pub mod CheckSteps
 pub mod CallSteps
 pub mod ListModeSteps
 pub mod SignatureSteps
-pub mod SelectPlaces
+pub mod PlaceValues
 pub mod SelectionTests
 pub mod SelectSteps
 pub mod Places

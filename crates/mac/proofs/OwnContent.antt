@@ -13,7 +13,7 @@ use Rattle.mac.specs.Content.{signedElements}
 use Rattle.mac.specs.Stream.{streamOf, elementsStream}
 use Rattle.mac.specs.UN.{isUN, holdsUN, sequencesWriteUN}
 use Rattle.mac.specs.SignatureMode.{named, leftOut, own}
-use Rattle.mac.proofs.Either.{first-false, second-false}
+use Rattle.dataset.proofs.Bools.{neither}
 use Rattle.mac.proofs.UN.{none-met}
 use Rattle.mac.proofs.StreamLength.{elements-length}
 
@@ -21,13 +21,13 @@ use Rattle.mac.proofs.StreamLength.{elements-length}
 module _ (e : Element) (h : leftOut e ≡ false) where
   unnamed : (barred (tagOf e) || (isUN e || holdsUN e)) ≡ false
   unfolding leftOut
-  unnamed = second-false (named (tagOf e)) (barred (tagOf e) || (isUN e || holdsUN e)) h
+  unnamed = neither (named (tagOf e)) (barred (tagOf e) || (isUN e || holdsUN e)) h .1
 
   pub own-unbarred : barred (tagOf e) ≡ false
-  own-unbarred = first-false (barred (tagOf e)) (isUN e || holdsUN e) unnamed
+  own-unbarred = neither (barred (tagOf e)) (isUN e || holdsUN e) unnamed .0
 
   own-holds-none : holdsUN e ≡ false
-  own-holds-none = second-false (isUN e) (holdsUN e) (second-false (barred (tagOf e)) (isUN e || holdsUN e) unnamed)
+  own-holds-none = neither (isUN e) (holdsUN e) (neither (barred (tagOf e)) (isUN e || holdsUN e) unnamed .1) .1
 
 pub own-never-met : (es : Elements) (d : List ℕ) → sequencesWriteUN (signedElements (own es) d) ≡ false
 unfolding own signedElements sequencesWriteUN if_then_else_

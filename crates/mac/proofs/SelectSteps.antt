@@ -31,7 +31,7 @@ use Rattle.mac.specs.declared.selection.FoundItem.{FoundItem}
 use Rattle.mac.specs.declared.selection.FoundItem.the-variants as found
 use Rattle.mac.specs.declared.selection.Selection.{Selection}
 use Rattle.mac.specs.declared.selection.Selection.the-variants as selection
-use Rattle.mac.proofs.SelectPlaces.{never, place-lies, placed-first, placed-second, NoValue, no-value, value-order, value-inside, value-at}
+use Rattle.mac.proofs.PlaceValues.{never, place-lies, placed-first, placed-second, NoValue, no-value, value-order, value-inside, value-at}
 use Rattle.mac.proofs.SelectionTests.{two-bytes}
 
 -- ---- an item

@@ -26,7 +26,7 @@ use Rattle.mac.specs.declared.selection.ItemKey.the-variants as key
 use Rattle.mac.proofs.Slices.{length-between}
 use Rattle.mac.proofs.OutputSteps.{drop-one}
 use Rattle.mac.proofs.CheckSteps.{same-lengths}
-use Rattle.mac.proofs.SelectPlaces.{NoValue, no-value, value-order, value-inside, value-at}
+use Rattle.mac.proofs.PlaceValues.{NoValue, no-value, value-order, value-inside, value-at}
 
 -- ---- a test of the value in a place
 module _ (want : ℕ) (test : Option (List ℕ) → Bool) (d : List ℕ) (p : Place) (r : Bool) where

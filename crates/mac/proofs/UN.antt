@@ -9,7 +9,10 @@ use Rattle.dataset.specs.Tree.{Element, Elements, Items, tagOf, vrOf}
 use Rattle.mac.specs.TagList.{barred, unlessBarred}
 use Rattle.mac.specs.Content.{SignedElement, SignedElements, signed, signedElements, signedItems}
 use Rattle.mac.specs.UN.{isUN, holdsUN, elementsHoldUN, itemsHoldUN, writesUN, elementsWriteUN, itemsWriteUN, sequencesWriteUN}
-use Rattle.mac.proofs.Either.{first-false, second-false, both-false}
+use Rattle.dataset.proofs.Bools.{neither}
+
+both-false : {a b : Bool} → a ≡ false → b ≡ false → a || b ≡ false
+both-false h k = rw (h, k)
 
 unless-barred-writes : (b : Bool) (e : SignedElement) (rest : SignedElements) → writesUN e ≡ false → elementsWriteUN rest ≡ false
     → elementsWriteUN (unlessBarred b (SignedElements.and e) rest) ≡ false
@@ -28,15 +31,15 @@ mutual
   elements-write : (es : Elements) (d : List ℕ) → elementsHoldUN es ≡ false → elementsWriteUN (signedElements es d) ≡ false
   elements-write Elements.none d h = refl
   elements-write (Elements.and e es) d h =
-      let k = second-false (isUN e) (holdsUN e || elementsHoldUN es) h in
+      let k = neither (isUN e) (holdsUN e || elementsHoldUN es) h .1 in
       unless-barred-writes (barred (tagOf e)) (signed e d) (signedElements es d)
-      (element-writes e d (first-false (isUN e) (holdsUN e || elementsHoldUN es) h) (first-false (holdsUN e) (elementsHoldUN es) k))
-      (elements-write es d (second-false (holdsUN e) (elementsHoldUN es) k))
+      (element-writes e d (neither (isUN e) (holdsUN e || elementsHoldUN es) h .0) (neither (holdsUN e) (elementsHoldUN es) k .0))
+      (elements-write es d (neither (holdsUN e) (elementsHoldUN es) k .1))
 
   items-write : (is : Items) (d : List ℕ) → itemsHoldUN is ≡ false → itemsWriteUN (signedItems is d) ≡ false
   items-write Items.last d h = refl
   items-write (Items.item at es is) d h =
-      both-false (elements-write es d (first-false (elementsHoldUN es) (itemsHoldUN is) h)) (items-write is d (second-false (elementsHoldUN es) (itemsHoldUN is) h))
+      both-false (elements-write es d (neither (elementsHoldUN es) (itemsHoldUN is) h .0)) (items-write is d (neither (elementsHoldUN es) (itemsHoldUN is) h .1))
 
 -- one listed element more
 pub none-met : (e : Element) (d : List ℕ) (rest : SignedElements) → holdsUN e ≡ false → sequencesWriteUN rest ≡ false → sequencesWriteUN (SignedElements.and (signed e d) rest) ≡ false

@@ -13,7 +13,7 @@ use Rattle.dataset.specs.Reading.{sizeLimit}
 use Rattle.mac.specs.TagList.{barred, unlessBarred}
 use Rattle.mac.specs.Content.{SignedElement, SignedElements, signed, signedElements, signedItems, inFragments, someInFragments, itemsInFragments}
 use Rattle.dataset.specs.Bytes.{OfBytes}
-use Rattle.mac.proofs.Either.{first-false, second-false}
+use Rattle.dataset.proofs.Bools.{neither}
 use Rattle.mac.proofs.Slices.{length-between}
 use Rattle.mac_theorems.proofs.ByteSlices.{small16, small-vr}
 use Rattle.mac_theorems.proofs.Encoding.{isShort, SizedAs, sized-as}
@@ -40,7 +40,7 @@ unless-barred-decodable : (b : Bool) (e : SignedElement) (rest : SignedElements)
     → someInFragments (unlessBarred b (SignedElements.and e) rest) ≡ false → ElementsDecodable (unlessBarred b (SignedElements.and e) rest)
 unfolding someInFragments ElementsDecodable
 unless-barred-decodable true e rest p q h = q h
-unless-barred-decodable false e rest p q h = (p (first-false (inFragments e) (someInFragments rest) h), q (second-false (inFragments e) (someInFragments rest) h))
+unless-barred-decodable false e rest p q h = (p (neither (inFragments e) (someInFragments rest) h .0), q (neither (inFragments e) (someInFragments rest) h .1))
 
 mutual
   unfolding signed inFragments ElementLies Decodable
@@ -70,6 +70,6 @@ mutual
       → itemsInFragments (signedItems is d) ≡ false → ItemsDecodable (signedItems is d)
   items-decodable Items.last d b left at next r h = tt
   items-decodable (Items.item p es is) d b left at next r h = (
-    elements-decodable es d b (left - 1) 0 (at + 8) (r .0) (r .3) (first-false (someInFragments (signedElements es d)) (itemsInFragments (signedItems is d)) h),
-    items-decodable is d b left (r .0) next (r .4) (second-false (someInFragments (signedElements es d)) (itemsInFragments (signedItems is d)) h),
+    elements-decodable es d b (left - 1) 0 (at + 8) (r .0) (r .3) (neither (someInFragments (signedElements es d)) (itemsInFragments (signedItems is d)) h .0),
+    items-decodable is d b left (r .0) next (r .4) (neither (someInFragments (signedElements es d)) (itemsInFragments (signedItems is d)) h .1),
   )

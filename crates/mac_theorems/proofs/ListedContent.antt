@@ -14,7 +14,7 @@ use Rattle.mac.specs.Stream.{foundStream, listedStream}
 use Rattle.mac.specs.UN.{holdsUN}
 use Rattle.mac.specs.Modes.{elementAnswer, tagsAnswer}
 use Rattle.mac_theorems.specs.Demand3.{foundHoldsUN, listedHoldUN}
-use Rattle.mac.proofs.Either.{first-false, second-false}
+use Rattle.dataset.proofs.Bools.{neither}
 use Rattle.mac_theorems.proofs.Encoding.{encodeElements, element-encoded}
 use Rattle.mac_theorems.proofs.Decoding.{ElementsDecodable}
 use Rattle.mac_theorems.proofs.Decodable.{WithinSize, element-decodable}
@@ -55,8 +55,8 @@ module _ (d : List ℕ) (within : WithinSize d) (es : Elements) (left floor at n
       let f = found-at tag es d left floor at next lies (j .element) (j .found) in
       let m : someInFragments (SignedElements.and (signed (j .element) d) (j .rest)) ≡ false = ap someInFragments (j .is) ∙ n in
       subst ElementsDecodable (j .is) (
-        element-decodable (j .element) d within left (f .from) (f .mid) (f .lies) (first-false (inFragments (signed (j .element) d)) (someInFragments (j .rest)) m),
-        content-decodable tags (j .rest) (j .others) (second-false (inFragments (signed (j .element) d)) (someInFragments (j .rest)) m),
+        element-decodable (j .element) d within left (f .from) (f .mid) (f .lies) (neither (inFragments (signed (j .element) d)) (someInFragments (j .rest)) m .0),
+        content-decodable tags (j .rest) (j .others) (neither (inFragments (signed (j .element) d)) (someInFragments (j .rest)) m .1),
       )
 
 -- ---- the same content in another data set, with no UN inside a listed sequence in either: the same of 13, 14 and 15
@@ -75,13 +75,13 @@ same-tags (tag ∷ tags) i es ks d s row c k m n =
     let l = joined-of (elementOf tag ks) (content tags ks s) s row k in
     let q : signed (j .element) d ≡ signed (l .element) s = cc (j .is, l .is) in
     let r : l .rest ≡ j .rest = cc (j .is, l .is) in
-    let h : holdsUN (j .element) ≡ false = subst (λ (o : Option Element). foundHoldsUN o ≡ false) (j .found) (first-false (foundHoldsUN (elementOf tag es)) (listedHoldUN tags es) m) in
-    let z : holdsUN (l .element) ≡ false = subst (λ (o : Option Element). foundHoldsUN o ≡ false) (l .found) (first-false (foundHoldsUN (elementOf tag ks)) (listedHoldUN tags ks) n) in
+    let h : holdsUN (j .element) ≡ false = subst (λ (o : Option Element). foundHoldsUN o ≡ false) (j .found) (neither (foundHoldsUN (elementOf tag es)) (listedHoldUN tags es) m .0) in
+    let z : holdsUN (l .element) ≡ false = subst (λ (o : Option Element). foundHoldsUN o ≡ false) (l .found) (neither (foundHoldsUN (elementOf tag ks)) (listedHoldUN tags ks) n .0) in
     let first : elementAnswer i (elementOf tag es) ≡ elementAnswer i (elementOf tag ks) =
     ap (elementAnswer i) (j .found) ∙ same-element i (j .element) (l .element) d s q h z ∙ sym (ap (elementAnswer i) (l .found)) in
     ap₂ _orElse_ first
-    (same-tags tags (i + 1) es ks d s (j .rest) (j .others) (l .others ∙ ap some r) (second-false (foundHoldsUN (elementOf tag es)) (listedHoldUN tags es) m)
-    (second-false (foundHoldsUN (elementOf tag ks)) (listedHoldUN tags ks) n))
+    (same-tags tags (i + 1) es ks d s (j .rest) (j .others) (l .others ∙ ap some r) (neither (foundHoldsUN (elementOf tag es)) (listedHoldUN tags es) m .1)
+    (neither (foundHoldsUN (elementOf tag ks)) (listedHoldUN tags ks) n .1))
 
 -- where none of 13, 14 and 15 is given, no listed sequence holds UN
 pub none-hold : (tags : List ℕ) (i : ℕ) (es : Elements) → tagsAnswer i tags es .number ≡ 0 → listedHoldUN tags es ≡ false

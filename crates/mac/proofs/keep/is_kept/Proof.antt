@@ -1,5 +1,5 @@
 -- `is_kept` meets its contract. Assumes nothing.
-use Rattle.mac.proofs.Helpers as helpers
+use Rattle.mac.proofs.KeepSteps as steps
 use borrow.Author.Needs.{needs}
 use Rattle.mac.proofs.keep.is_kept.Statement.{statement}
 use Rattle.mac.proofs.keep.is_kept.Tie as tie
@@ -17,10 +17,10 @@ enum-told-2 : tie.Need-enum-told-2
 enum-told-2 c = search needs
 
 returns : tie.Need-returns
-returns c = search helpers.unbarred-is
+returns c = search steps.unbarred-is
 
 returns-2 : tie.Need-returns-2
-returns-2 c = search helpers.only-is
+returns-2 c = search steps.only-is
 
 returns-3 : tie.Need-returns-3
 returns-3 c = search needs

@@ -1,5 +1,5 @@
 -- `keeps_header` meets its contract. Assumes nothing.
-use Rattle.mac.proofs.Helpers as helpers
+use Rattle.mac.proofs.KeepSteps as steps
 use borrow.Author.Needs.{needs}
 use Rattle.mac.proofs.keep.keeps_header.Statement.{statement}
 use Rattle.mac.proofs.keep.keeps_header.Tie as tie
@@ -35,13 +35,13 @@ returns-2 : tie.Need-returns-2
 returns-2 c = search needs
 
 returns-3 : tie.Need-returns-3
-returns-3 c = search helpers.value-kept
+returns-3 c = search steps.value-kept
 
 returns-4 : tie.Need-returns-4
-returns-4 c = search helpers.sequence-kept
+returns-4 c = search steps.sequence-kept
 
 returns-5 : tie.Need-returns-5
-returns-5 c = search helpers.fragments-kept
+returns-5 c = search steps.fragments-kept
 
 pub keeps-header-spec : {M : Type 1} → statement M
 keeps-header-spec =

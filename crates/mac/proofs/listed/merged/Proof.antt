@@ -1,5 +1,5 @@
--- `merged` meets its contract: each place by its law in MergeSteps, TagListSteps. Assumes nothing.
-use Rattle.mac.proofs.MergeSteps as steps
+-- `merged` meets its contract: each place by its law in ListedSteps, TagListSteps. Assumes nothing.
+use Rattle.mac.proofs.ListedSteps as steps
 use Rattle.mac.proofs.TagListSteps as tags
 use borrow.Author.Needs.{needs}
 use Rattle.mac.proofs.listed.merged.Statement.{statement}

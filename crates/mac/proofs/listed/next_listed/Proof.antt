@@ -1,5 +1,5 @@
--- `next_listed` meets its contract: each place by its law in MergeSteps, TagListSteps. Assumes nothing.
-use Rattle.mac.proofs.MergeSteps as steps
+-- `next_listed` meets its contract: each place by its law in ListedSteps, TagListSteps. Assumes nothing.
+use Rattle.mac.proofs.ListedSteps as steps
 use Rattle.mac.proofs.TagListSteps as tags
 use borrow.Author.Needs.{needs}
 use Rattle.mac.proofs.listed.next_listed.Statement.{statement}

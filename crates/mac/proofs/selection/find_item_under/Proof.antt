@@ -1,5 +1,5 @@
--- `find_item_under` meets its contract: each place by its law in SelectPlaces. Assumes nothing.
-use Rattle.mac.proofs.SelectPlaces as places
+-- `find_item_under` meets its contract: each place by its law in PlaceValues. Assumes nothing.
+use Rattle.mac.proofs.PlaceValues as places
 use borrow.Author.Needs.{needs}
 use Rattle.mac.proofs.selection.find_item_under.Statement.{statement}
 use Rattle.mac.proofs.selection.find_item_under.Tie as tie

@@ -1,5 +1,5 @@
 -- `same_mac_id` meets its contract: each place by its law in SelectionTests. Assumes nothing.
-use Rattle.mac.proofs.SelectPlaces as places
+use Rattle.mac.proofs.PlaceValues as places
 use Rattle.mac.proofs.SelectionTests as tests
 use borrow.Author.Tests.{not-true, not-false}
 use borrow.Author.Needs.{needs}

@@ -1,5 +1,5 @@
 -- `select_from` meets its contract: each place by its law in SelectSteps. Assumes nothing.
-use Rattle.mac.proofs.SelectPlaces as places
+use Rattle.mac.proofs.PlaceValues as places
 use Rattle.mac.proofs.SelectSteps as steps
 use borrow.Author.Tests.{not-true, not-false}
 use borrow.Author.Needs.{needs}

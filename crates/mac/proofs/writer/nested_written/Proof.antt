@@ -1,5 +1,5 @@
 -- `nested_written` meets its contract. Assumes nothing.
-use Rattle.mac.proofs.Helpers as helpers
+use Rattle.mac.proofs.WrittenSteps as steps
 use borrow.Author.Needs.{needs}
 use Rattle.mac.proofs.writer.nested_written.Statement.{statement}
 use Rattle.mac.proofs.writer.nested_written.Tie as tie
@@ -11,10 +11,10 @@ enum-known-inside-2 : tie.Need-enum-known-inside-2
 enum-known-inside-2 c = search needs
 
 returns : tie.Need-returns
-returns c = search helpers.holding-refused
+returns c = search steps.nested-refused
 
 returns-2 : tie.Need-returns-2
-returns-2 c = search helpers.holding-past
+returns-2 c = search steps.nested-past
 
 pub nested-written-spec : {M : Type 1} → statement M
 nested-written-spec = tie.close (tie.spec enum-known-inside enum-known-inside-2 returns returns-2)

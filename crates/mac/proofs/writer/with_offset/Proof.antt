@@ -1,5 +1,5 @@
 -- `with_offset` meets its contract. Assumes nothing.
-use Rattle.mac.proofs.Helpers as helpers
+use Rattle.mac.proofs.WrittenSteps as steps
 use borrow.Author.Needs.{needs}
 use Rattle.mac.proofs.writer.with_offset.Statement.{statement}
 use Rattle.mac.proofs.writer.with_offset.Tie as tie
@@ -14,13 +14,13 @@ enum-known-one-3 : tie.Need-enum-known-one-3
 enum-known-one-3 c = search needs
 
 returns : tie.Need-returns
-returns c = search helpers.offset-refused
+returns c = search steps.offset-refused
 
 returns-2 : tie.Need-returns-2
-returns-2 c = search helpers.offset-end
+returns-2 c = search steps.offset-end
 
 returns-3 : tie.Need-returns-3
-returns-3 c = search helpers.offset-element
+returns-3 c = search steps.offset-element
 
 pub with-offset-spec : {M : Type 1} → statement M
 with-offset-spec =
