@@ -46,10 +46,10 @@ pub whole-lies : (d : List ℕ) (x : Extent) → x ≡ wholeOf (length d) → Li
 whole-lies d x e = rw e record { order = omega arith; inside = omega arith }
 
 -- ---- a refusal
-pub into-refused : (call : Option (List ℕ) → Result) (bad : Bool) (out : List ℕ) (a : Answer) → ((expected : Option (List ℕ)) → a ≡ call expected .answer) → (a .number ≡ 0 → ⊥)
+pub call-refused : (call : Option (List ℕ) → Result) (bad : Bool) (out : List ℕ) (a : Answer) → ((expected : Option (List ℕ)) → a ≡ call expected .answer) → (a .number ≡ 0 → ⊥)
     → CallAnswered call bad out a out
 unfolding outputAfter if_then_else_
-into-refused call bad out a q h = record {
+call-refused call bad out a q h = record {
   streamed = λ expected b. record { answers = q expected; output = rw (← q expected, ne-eqb (a .number) 0 h) };
   long = λ expected z. absurd (h z);
   room = λ z. absurd (h z);
@@ -59,18 +59,18 @@ into-refused call bad out a q h = record {
 -- ---- from 13 on
 module _ (call : Option (List ℕ) → Result) (l d : List ℕ) (x : Extent) (follows : SignatureItem) (bad : Bool) (out : List ℕ) (r : Answer) (ys : List ℕ) (t : AnsweredFrom13 l d x follows bad out r ys) where
   -- the data set is refused
-  pub into-fault : (f : Answer) → elementsIn d x ≡ fault f → (f .number ≡ 0 → ⊥) → ((expected : Option (List ℕ)) → f ≡ call expected .answer) → CallAnswered call bad out r ys
-  into-fault f e h q =
+  pub call-fault : (f : Answer) → elementsIn d x ≡ fault f → (f .number ≡ 0 → ⊥) → ((expected : Option (List ℕ)) → f ≡ call expected .answer) → CallAnswered call bad out r ys
+  call-fault f e h q =
       let v = t .refused f e in
       subst (λ (zs : List ℕ). CallAnswered call bad out r zs) (sym (v .1))
-      (into-refused call bad out r (λ expected. v .0 ∙ q expected) (λ z. h (ap (λ (y : Answer). y .number) (sym (v .0)) ∙ z)))
+      (call-refused call bad out r (λ expected. v .0 ∙ q expected) (λ z. h (ap (λ (y : Answer). y .number) (sym (v .0)) ∙ z)))
 
   -- the data set is read
-  pub into-read : (es : Elements) (next : ℕ) (metUN : Bool) → elementsIn d x ≡ read es next → length d ≤ sizeLimit
+  pub call-read : (es : Elements) (next : ℕ) (metUN : Bool) → elementsIn d x ≡ read es next → length d ≤ sizeLimit
       → (tagsAnswer 0 (tagsIn l) es .number ≡ 0 → metUN ≡ false)
       → ((expected : Option (List ℕ)) → _≡_ {A = Result} (record { answer = answerFrom13 (tagsIn l) es metUN (wholeStream (tagsIn l) es d follows) (length out) expected; stream = wholeStream (tagsIn l) es d follows; expected = expected }) (call expected))
       → CallAnswered call bad out r ys
-  into-read es next metUN e h unmet q = record {
+  call-read es next metUN e h unmet q = record {
     streamed = λ expected b. subst (λ (c : Result). Streamed c out r ys) (q expected) (t .streamed es next e metUN unmet expected b);
     long = λ expected z. t .long es next e z ∙ ap (λ (c : Result). length (c .stream)) (q expected);
     room = t .room;

@@ -91,13 +91,13 @@ pub check-count : (a : Answer) (work : List ℕ) → (a .number ≡ 0 → a .len
 check-count a work h z = sym (length-take-le (a .length) work (h z))
 
 -- ---- a call in either mode
-pub into-streamed : (call : Option (List ℕ) → Result) (out after : List ℕ) (a : Answer) → CallAnswered call false out a after → Streamed (call Opt.none) out a after
-into-streamed call out after a s = s .streamed Opt.none refl
+pub call-streamed : (call : Option (List ℕ) → Result) (out after : List ℕ) (a : Answer) → CallAnswered call false out a after → Streamed (call Opt.none) out a after
+call-streamed call out after a s = s .streamed Opt.none refl
 
 module _ (call : Option (List ℕ) → Result) (expected work after : List ℕ) (a : Answer) (bad : Bool) (n : bad ≡ badDigestLength (some expected))
     (s : CallAnswered call bad work a after) where
-  pub into-room : length after ≡ length work → a .number ≡ 0 → a .length ≤ length after
-  into-room k h = omega (arith, s .room h)
+  pub call-room : length after ≡ length work → a .number ≡ 0 → a .length ≤ length after
+  call-room k h = omega (arith, s .room h)
 
   -- what is digested is the stream
   digested : a .number ≡ 0 → take (a .length) after ≡ call (some expected) .stream
@@ -108,9 +108,9 @@ module _ (call : Option (List ℕ) → Result) (expected work after : List ℕ) 
       let y : after ≡ b ++ drop (length b) work = t .output ∙ rw (← t .answers, eq-eqb (a .number) 0 h) in
       rw y (take-at b (drop (length b) work) (a .length) (sym (s .long (some expected) h)))
 
-  pub into-checked : (r : Checked) → call (some expected) .expected ≡ some expected → CheckOf a expected after r → CheckedAs (call (some expected)) work r after
+  pub call-checked : (r : Checked) → call (some expected) .expected ≡ some expected → CheckOf a expected after r → CheckedAs (call (some expected)) work r after
   unfolding verdictOf if_then_else_
-  into-checked r e k =
+  call-checked r e k =
       let t = s .streamed (some expected) (sym n) in
       record { answers = k .answers ∙ t .answers; says = go (eqb (a .number) 0) refl; output = t .output }
     where

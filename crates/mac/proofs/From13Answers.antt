@@ -14,15 +14,15 @@ use Rattle.dataset.specs.Tree.{Elements}
 use Rattle.mac.specs.Modes.{tagsAnswer, badDigestLength, answerFrom13}
 
 -- none of 13, 14, 15, 9 and 16
-pub record TailAccepts (tags : List ℕ) (es : Elements) (stream : List ℕ) (room : ℕ) (expected : Option (List ℕ)) : Type 0 where
+pub record From13Accepts (tags : List ℕ) (es : Elements) (stream : List ℕ) (room : ℕ) (expected : Option (List ℕ)) : Type 0 where
   pub found : tagsAnswer 0 tags es .number ≡ 0
   pub digest : badDigestLength expected ≡ false
   pub fits : ltb room (length stream) ≡ false
 
 module _ (tags : List ℕ) (es : Elements) (metUN : Bool) (stream : List ℕ) (room : ℕ) (expected : Option (List ℕ)) where
-  pub tail-accepts : answerFrom13 tags es metUN stream room expected .number ≡ 0 → TailAccepts tags es stream room expected
+  pub from13-accepts : answerFrom13 tags es metUN stream room expected .number ≡ 0 → From13Accepts tags es stream room expected
   unfolding answerFrom13
-  tail-accepts h =
+  from13-accepts h =
       let found = both-accepted _ _ h in
       let digest = both-accepted _ _ (found .second) in
       let fits = both-accepted _ _ (digest .second) in
@@ -32,9 +32,9 @@ module _ (tags : List ℕ) (es : Elements) (metUN : Bool) (stream : List ℕ) (r
         fits = passed (ltb room (length stream)) 16 0 (λ z. omega arith) (fits .first);
       }
 
-  pub tail-accepted : TailAccepts tags es stream room expected → metUN ≡ false → answerFrom13 tags es metUN stream room expected ≡ accepted (length stream)
+  pub from13-accepted : From13Accepts tags es stream room expected → metUN ≡ false → answerFrom13 tags es metUN stream room expected ≡ accepted (length stream)
   unfolding answerFrom13 if_then_else_
-  tail-accepted a unmet =
+  from13-accepted a unmet =
       or-else-second _ _ (a .found)
       ∙ or-else-second _ _ (rw (a .digest))
       ∙ or-else-second _ _ (rw (a .fits))

@@ -23,7 +23,7 @@ use Rattle.mac.specs.Inner.Extent.{Lies, elementsIn}
 use Rattle.mac.specs.Inner.Calls.{wholeStream, walkAnswer, StreamLeaves, StreamWalk, ReadFrom13, AnsweredFrom13, AnsweredFrom10}
 use Rattle.mac.specs.declared.extent.Extent.{Extent}
 use Rattle.mac.specs.declared.modes.SignatureItem.{SignatureItem}
-use Rattle.mac.proofs.From13Answers.{tail-accepted}
+use Rattle.mac.proofs.From13Answers.{from13-accepted}
 use Rattle.mac.proofs.StreamWalkSteps.{fault-number}
 
 -- ---- the end of the order: m is what the walk that measures answers
@@ -76,7 +76,7 @@ module _ (l d : List ℕ) (x : Extent) (follows : SignatureItem) (bad : Bool) (o
 
         accepts : bad ≡ false → length all ≤ length out → whole ≡ accepted (length all)
         accepts k j =
-            tail-accepted (tagsIn l) es metUN all (length out) expected
+            from13-accepted (tagsIn l) es metUN all (length out) expected
             (record { found = found h; digest = b ∙ k; fits = le-ltb (length out) (length all) j }) (unmet (found h))
 
         written-out : (r : Answer) (ys : List ℕ) → bad ≡ false → length all ≤ length out → r ≡ accepted (length all) → ys ≡ sets out 0 all → Streamed result out r ys
@@ -88,9 +88,9 @@ module _ (l d : List ℕ) (x : Extent) (follows : SignatureItem) (bad : Bool) (o
             }
 
   -- a refusal
-  tail-refuses : (a : Answer) → (a .number ≡ 0 → ⊥) → ((f : Answer) → elementsIn d x ≡ fault f → a ≡ f)
+  from13-refuses : (a : Answer) → (a .number ≡ 0 → ⊥) → ((f : Answer) → elementsIn d x ≡ fault f → a ≡ f)
       → ((es : Elements) (next : ℕ) → elementsIn d x ≡ read es next → ReadFrom13 l d es follows bad out a out) → AnsweredFrom13 l d x follows bad out a out
-  tail-refuses a h f s =
+  from13-refuses a h f s =
       record {
         refused = λ g e. (f g e, refl);
         streamed = s;
@@ -99,10 +99,10 @@ module _ (l d : List ℕ) (x : Extent) (follows : SignatureItem) (bad : Bool) (o
         short = λ z. absurd (h z);
       }
 
-  pub tail-tags : (m .number ≡ 0 → ⊥) → AnsweredFrom13 l d x follows bad out m out
+  pub from13-tags : (m .number ≡ 0 → ⊥) → AnsweredFrom13 l d x follows bad out m out
   unfolding walkAnswer
-  tail-tags h =
-      tail-refuses m h (λ f e. w .answers ∙ rw e) (λ es next e metUN unmet expected b. leaves-out es next e metUN unmet expected b m (tags-refuse es next e metUN unmet expected b h) h)
+  from13-tags h =
+      from13-refuses m h (λ f e. w .answers ∙ rw e) (λ es next e metUN unmet expected b. leaves-out es next e metUN unmet expected b m (tags-refuse es next e metUN unmet expected b h) h)
 
   module _ (h : m .number ≡ 0) where
     no-fault : (f : Answer) → elementsIn d x ≡ fault f → ⊥
@@ -112,16 +112,16 @@ module _ (l d : List ℕ) (x : Extent) (follows : SignatureItem) (bad : Bool) (o
     measured-length : (es : Elements) (next : ℕ) (e : elementsIn d x ≡ read es next) → m .length ≡ length (wholeStream (tagsIn l) es d follows)
     measured-length es next e = ap (λ (z : Answer). z .length) (long es next e m xs ns h w)
 
-    pub tail-digest : (a : Answer) → bad ≡ true → a ≡ refused 9 0 → AnsweredFrom13 l d x follows bad out a out
-    tail-digest a k q =
+    pub from13-digest : (a : Answer) → bad ≡ true → a ≡ refused 9 0 → AnsweredFrom13 l d x follows bad out a out
+    from13-digest a k q =
         let z : a .number ≡ 0 → ⊥ = λ y. let v : _≡_ {A = ℕ} 9 0 = ap (λ (z : Answer). z .number) (sym q) ∙ y in omega arith in
-        tail-refuses a z (λ f e. absurd (no-fault f e))
+        from13-refuses a z (λ f e. absurd (no-fault f e))
         (λ es next e metUN unmet expected b. leaves-out es next e metUN unmet expected b a (digest-refuses es next e metUN unmet expected b h a k q) z)
 
-    pub tail-room : (a : Answer) → bad ≡ false → length out < m .length → a ≡ refused 16 0 → AnsweredFrom13 l d x follows bad out a out
-    tail-room a k j q =
+    pub from13-room : (a : Answer) → bad ≡ false → length out < m .length → a ≡ refused 16 0 → AnsweredFrom13 l d x follows bad out a out
+    from13-room a k j q =
         let z : a .number ≡ 0 → ⊥ = λ y. let v : _≡_ {A = ℕ} 16 0 = ap (λ (z : Answer). z .number) (sym q) ∙ y in omega arith in
-        tail-refuses a z (λ f e. absurd (no-fault f e))
+        from13-refuses a z (λ f e. absurd (no-fault f e))
         (λ es next e metUN unmet expected b.
         leaves-out es next e metUN unmet expected b a (room-refuses es next e metUN unmet expected b h a k (omega (arith, measured-length es next e)) q) z)
 
@@ -136,8 +136,8 @@ module _ (l d : List ℕ) (x : Extent) (follows : SignatureItem) (bad : Bool) (o
       room-by j (fault f) e = absurd (no-fault f e)
       room-by j (read es next) e = let n = ap (λ (z : Answer). z .length) (long es next e r out ys h v) in omega (arith, measured-length es next e, n)
 
-      pub tail-written : bad ≡ false → m .length ≤ length out → AnsweredFrom13 l d x follows bad out r ys
-      tail-written k j =
+      pub from13-written : bad ≡ false → m .length ≤ length out → AnsweredFrom13 l d x follows bad out r ys
+      from13-written k j =
           record {
             refused = λ f e. absurd (no-fault f e);
             streamed = λ es next e metUN unmet expected b.

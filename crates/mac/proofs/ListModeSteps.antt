@@ -30,14 +30,14 @@ use Rattle.mac.specs.declared.extent.Extent.{Extent}
 use Rattle.mac.specs.declared.modes.SignatureItem.the-variants as signatureItem
 use Rattle.mac.proofs.ListedElements.{never-met}
 use Rattle.mac.specs.declared.verdict.Checked.{Checked}
-use Rattle.mac.proofs.CallSteps.{into-refused, into-fault, into-read}
-use Rattle.mac.proofs.CheckSteps.{into-streamed, into-room, into-checked}
+use Rattle.mac.proofs.CallSteps.{call-refused, call-fault, call-read}
+use Rattle.mac.proofs.CheckSteps.{call-streamed, call-room, call-checked}
 
 module _ (l d : List ℕ) (bad : Bool) (out : List ℕ) where
   pub list-over : (a : Answer) → sizeLimit < length d → a ≡ refused 1 0 → CallAnswered (listCall l d out) bad out a out
   unfolding answer if_then_else_
   list-over a h e =
-      into-refused (listCall l d out) bad out a (λ expected. e ∙ sym (rw (lt-ltb sizeLimit (length d) h) (or-else-first (refused 1 0) _ (λ z. omega arith))))
+      call-refused (listCall l d out) bad out a (λ expected. e ∙ sym (rw (lt-ltb sizeLimit (length d) h) (or-else-first (refused 1 0) _ (λ z. omega arith))))
       (λ z. let y : _≡_ {A = ℕ} 1 0 = ap (λ (x : Answer). x .number) (sym e) ∙ z in omega arith)
 
   module _ (h : length d ≤ sizeLimit) where
@@ -54,7 +54,7 @@ module _ (l d : List ℕ) (bad : Bool) (out : List ℕ) where
     on expected = rw (le-ltb sizeLimit (length d) h) (or-else-second (accepted 0) _ refl)
 
     list-refused : (f .number ≡ 0 → ⊥) → CallAnswered (listCall l d out) bad out f out
-    list-refused k = into-refused (listCall l d out) bad out f (λ expected. sym (on expected ∙ or-else-first f _ k)) k
+    list-refused k = call-refused (listCall l d out) bad out f (λ expected. sym (on expected ∙ or-else-first f _ k)) k
 
     module _ (k : f .number ≡ 0) (x : Extent) (w : x ≡ wholeOf (length d)) (r : Answer) (ys : List ℕ) (t : AnsweredFrom13 l d x signatureItem.Absent bad out r ys) where
       whole : elementsIn d x ≡ dataSet d
@@ -78,10 +78,10 @@ module _ (l d : List ℕ) (bad : Bool) (out : List ℕ) where
       by : (p : Reading Elements) → dataSet d ≡ p → CallAnswered (listCall l d out) bad out r ys
       by (fault g) q =
           let n : g .number ≡ 0 → ⊥ = λ z. omega (arith, faults-inside d g q .least) in
-          into-fault (listCall l d out) l d x signatureItem.Absent bad out r ys t g (whole ∙ q) n
+          call-fault (listCall l d out) l d x signatureItem.Absent bad out r ys t g (whole ∙ q) n
           (λ expected. sym (on expected ∙ or-else-second f _ k ∙ rw q (or-else-first g _ n)))
       by (read es next) q =
-          into-read (listCall l d out) l d x signatureItem.Absent bad out r ys t es next (contentWritesUN (content (tagsIn l) (tree d) d)) (whole ∙ q) h
+          call-read (listCall l d out) l d x signatureItem.Absent bad out r ys t es next (contentWritesUN (content (tagsIn l) (tree d) d)) (whole ∙ q) h
           (λ z. never-met (tagsIn l) (tree d) d (subst (λ (v : Elements). tagsAnswer 0 (tagsIn l) v .number ≡ 0) (sym (ap treeOf q)) z)) (read-call es next q)
 
     pub list-call : (x : Extent) → x ≡ wholeOf (length d) → (r : Answer) (ys : List ℕ) → AnsweredFrom10 l d x signatureItem.Absent bad out r ys → CallAnswered (listCall l d out) bad out r ys
@@ -93,12 +93,12 @@ module _ (l d : List ℕ) (bad : Bool) (out : List ℕ) where
 
 -- ---- the calls
 pub list-streamed : (l d out after : List ℕ) (a : Answer) → CallAnswered (listCall l d out) false out a after → Streamed (result (streamCall l d out)) out a after
-list-streamed l d out after a s = into-streamed (listCall l d out) out after a s
+list-streamed l d out after a s = call-streamed (listCall l d out) out after a s
 
 module _ (l d expected work after : List ℕ) (a : Answer) (bad : Bool) (n : bad ≡ badDigestLength (some expected))
     (s : CallAnswered (listCall l d work) bad work a after) where
   pub list-room : length after ≡ length work → a .number ≡ 0 → a .length ≤ length after
-  list-room = into-room (listCall l d work) expected work after a bad n s
+  list-room = call-room (listCall l d work) expected work after a bad n s
 
   pub list-checked : (r : Checked) → CheckOf a expected after r → CheckedAs (result (checkCall l d expected work)) work r after
-  list-checked r k = into-checked (listCall l d work) expected work after a bad n s r refl k
+  list-checked r k = call-checked (listCall l d work) expected work after a bad n s r refl k

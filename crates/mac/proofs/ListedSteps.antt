@@ -16,13 +16,13 @@ use Rattle.mac.specs.declared.listed.Listed.{Listed}
 use Rattle.mac.specs.declared.keep.Keep.the-variants as keep
 use Rattle.mac.proofs.TagListSteps.{tags-more, tags-none}
 
-pub wanted-none : (l : List ℕ) (index : ℕ) → length l / 4 ≤ index → keep.Nothing ≡ nextListed (tagsIn (drop (4 * index) l))
+pub listed-none : (l : List ℕ) (index : ℕ) → length l / 4 ≤ index → keep.Nothing ≡ nextListed (tagsIn (drop (4 * index) l))
 unfolding nextListed
-wanted-none l index h = rw (tags-none l index h)
+listed-none l index h = rw (tags-none l index h)
 
-pub wanted-tag : (l : List ℕ) (index tag : ℕ) → index < length l / 4 → tag ≡ tagAt l (4 * index) → keep.Only tag ≡ nextListed (tagsIn (drop (4 * index) l))
+pub listed-tag : (l : List ℕ) (index tag : ℕ) → index < length l / 4 → tag ≡ tagAt l (4 * index) → keep.Only tag ≡ nextListed (tagsIn (drop (4 * index) l))
 unfolding nextListed
-wanted-tag l index tag h e = rw (tags-more l index h, ← e)
+listed-tag l index tag h e = rw (tags-more l index h, ← e)
 
 pub ended-none : (l : List ℕ) (s : Listed) → length l / 4 ≤ s .index → s .answer ≡ endedOf (tagsIn (drop (4 * s .index) l)) s
 unfolding endedOf

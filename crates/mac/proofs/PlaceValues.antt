@@ -123,8 +123,8 @@ module _ (d : List ℕ) (p : Place) (w : ItemKey) where
     pub items-level : PlaceLies d p → 0 < x .left
     items-level l = (rw is at l) .1
 
-    pub item-chosen : (r : FoundItem) → FoundItemIn d w 0 (itemsIn d x) r → FoundItemUnder d p w r
-    item-chosen r k = record { says = by-element }
+    pub item-found : (r : FoundItem) → FoundItemIn d w 0 (itemsIn d x) r → FoundItemUnder d p w r
+    item-found r k = record { says = by-element }
       where
         by-element : (o : Option Element) → Placed d o p → FoundItemAs d (itemWhere (hasKey d w) (itemsOf o)) r
         by-element Opt.none q = never (cc)

@@ -65,19 +65,19 @@ module _ (d : List ℕ) (p : Place) (start end vr from to : ℕ) (is : p ≡ pla
   id-same r t w = record { says = λ o q. rw (two-bytes d p vr from to is lies b e o q, t) w }
 
 module _ (d : List ℕ) (w : ItemKey) (index : ℕ) (id : Place) where
-  pub wanted-number : (number : ℕ) → w ≡ key.Number number → TestsKey d w index id (eqb index number)
-  wanted-number number e es q = rw e
+  pub key-number : (number : ℕ) → w ≡ key.Number number → TestsKey d w index id (eqb index number)
+  key-number number e es q = rw e
 
   module _ (start end : ℕ) (e : w ≡ key.MacId start end) where
-    pub wanted-order : KeyLies d w → start ≤ end
-    wanted-order l = (rw e at l) .0
+    pub key-order : KeyLies d w → start ≤ end
+    key-order l = (rw e at l) .0
 
-    pub wanted-inside : KeyLies d w → end ≤ length d
-    wanted-inside l = (rw e at l) .1
+    pub key-inside : KeyLies d w → end ≤ length d
+    key-inside l = (rw e at l) .1
 
-    pub wanted-id : (r : Bool) → SameMacId d id start end r → TestsKey d w index id r
+    pub key-id : (r : Bool) → SameMacId d id start end r → TestsKey d w index id r
     unfolding macIdOf
-    wanted-id r h es q = rw e (h .says (elementOf macIdNumber es) q)
+    key-id r h es q = rw e (h .says (elementOf macIdNumber es) q)
 
 -- ---- 21
 same-byte : (l : List ℕ) (i : ℕ) → i < length l → getD l i 1 ≡ getD l i 0

@@ -34,8 +34,8 @@ use Rattle.mac.specs.declared.selection.Selection.{Selection}
 use Rattle.mac.specs.declared.selection.Selection.the-variants as selection
 use Rattle.mac.specs.declared.signature_mode.Signature.{Signature}
 use Rattle.mac.specs.declared.verdict.Checked.{Checked}
-use Rattle.mac.proofs.CallSteps.{into-refused, into-read}
-use Rattle.mac.proofs.CheckSteps.{into-streamed, into-room, into-checked}
+use Rattle.mac.proofs.CallSteps.{call-refused, call-read}
+use Rattle.mac.proofs.CheckSteps.{call-streamed, call-room, call-checked}
 use Rattle.mac.proofs.SignatureAnswers.{own-unmet, selected-number}
 
 -- ---- what is selected: the list from start to end, and the signature item in the extent `item`
@@ -100,7 +100,7 @@ module _ (uid : List ℕ) (which : Signature) (d : List ℕ) (bad : Bool) (out :
 
   pub signature-over : (a : Answer) → sizeLimit < length d → a ≡ refused 1 0 → CallAnswered call bad out a out
   signature-over a h e =
-      into-refused call bad out a (λ expected. e ∙ sym (on (fault (refused 1 0)) (data-set-over d h) expected ∙ or-else-first (refused 1 0) _ (λ z. omega arith)))
+      call-refused call bad out a (λ expected. e ∙ sym (on (fault (refused 1 0)) (data-set-over d h) expected ∙ or-else-first (refused 1 0) _ (λ z. omega arith)))
       (λ z. let y : _≡_ {A = ℕ} 1 0 = ap (λ (x : Answer). x .number) (sym e) ∙ z in omega arith)
 
   module _ (h : length d ≤ sizeLimit) (x : Extent) (w : x ≡ wholeOf (length d)) (s : Selection) where
@@ -114,14 +114,14 @@ module _ (uid : List ℕ) (which : Signature) (d : List ℕ) (bad : Bool) (out :
       by-selection es n q (refusal k) m t =
           let a : f ≡ refused k 0 = cc in
           let z = selected-number uid (numberOf which) es d k m in
-          into-refused call bad out f (λ expected. a ∙ sym (on (read es n) q expected ∙ or-else-second (accepted 0) _ refl ∙ rw m)) (λ y. z (ap (λ (v : Answer). v .number) (sym a) ∙ y))
+          call-refused call bad out f (λ expected. a ∙ sym (on (read es n) q expected ∙ or-else-second (accepted 0) _ refl ∙ rw m)) (λ y. z (ap (λ (v : Answer). v .number) (sym a) ∙ y))
       by-selection es n q (selected list item) m t = let u = t .is in absurd (true≢false (cc))
 
       by-reading : (p : Reading Elements) → dataSet d ≡ p → SelectedIn uid (numberOf which) d p s → CallAnswered call bad out f out
       by-reading (fault g) q t =
           let a : f ≡ g = cc in
           let n : g .number ≡ 0 → ⊥ = λ z. omega (arith, faults-inside d g q .least) in
-          into-refused call bad out f (λ expected. a ∙ sym (on (fault g) q expected ∙ or-else-first g _ n)) (λ y. n (ap (λ (v : Answer). v .number) (sym a) ∙ y))
+          call-refused call bad out f (λ expected. a ∙ sym (on (fault g) q expected ∙ or-else-first g _ n)) (λ y. n (ap (λ (v : Answer). v .number) (sym a) ∙ y))
       by-reading (read es n) q t = by-selection es n q (select uid (numberOf which) es d) refl t
 
       pub signature-refused : (number : ℕ) → number ≡ numberOf which → SelectedIn uid number d (elementsIn d x) s → CallAnswered call bad out f out
@@ -149,9 +149,9 @@ module _ (uid : List ℕ) (which : Signature) (d : List ℕ) (bad : Bool) (out :
 
       signature-list : (listAnswer list .number ≡ 0 → ⊥) → CallAnswered call bad out (listAnswer list) out
       unfolding answerBy
-      signature-list n = into-refused call bad out (listAnswer list) (λ expected. sym (on-list expected ∙ or-else-first (listAnswer list) _ n)) n
+      signature-list n = call-refused call bad out (listAnswer list) (λ expected. sym (on-list expected ∙ or-else-first (listAnswer list) _ n)) n
 
-      module _ (z : listAnswer list .number ≡ 0) (r : Answer) (ys : List ℕ) (tail-for : AnsweredFrom13 list d x (signatureItem.Item item) bad out r ys) where
+      module _ (z : listAnswer list .number ≡ 0) (r : Answer) (ys : List ℕ) (from13-for : AnsweredFrom13 list d x (signatureItem.Item item) bad out r ys) where
         abbrev all : List ℕ
         all = wholeStream (tagsIn list) (g .elements) d (signatureItem.Item item)
 
@@ -175,7 +175,7 @@ module _ (uid : List ℕ) (which : Signature) (d : List ℕ) (bad : Bool) (out :
 
         answer-from-13 : CallAnswered call bad out r ys
         answer-from-13 =
-            into-read call list d x (signatureItem.Item item) bad out r ys tail-for (g .elements) (g .next) (signatureWritesUN list (g .parts) (g .elements) d) (g .reads) h
+            call-read call list d x (signatureItem.Item item) bad out r ys from13-for (g .elements) (g .next) (signatureWritesUN list (g .parts) (g .elements) d) (g .reads) h
             (own-unmet list (g .parts) (g .elements) d) same-call
 
       pub signature-call : (r : Answer) (ys : List ℕ) → AnsweredFrom10 list d x (signatureItem.Item item) bad out r ys → CallAnswered call bad out r ys
@@ -188,12 +188,12 @@ module _ (uid : List ℕ) (which : Signature) (d : List ℕ) (bad : Bool) (out :
 -- ---- the calls
 pub signature-streamed : (uid : List ℕ) (which : Signature) (d out after : List ℕ) (a : Answer) → CallAnswered (signatureCall uid which d out) false out a after
     → Streamed (result (streamCall uid which d out)) out a after
-signature-streamed uid which d out after a s = into-streamed (signatureCall uid which d out) out after a s
+signature-streamed uid which d out after a s = call-streamed (signatureCall uid which d out) out after a s
 
 module _ (uid : List ℕ) (which : Signature) (d expected work after : List ℕ) (a : Answer) (bad : Bool) (n : bad ≡ badDigestLength (some expected))
     (s : CallAnswered (signatureCall uid which d work) bad work a after) where
   pub signature-room : length after ≡ length work → a .number ≡ 0 → a .length ≤ length after
-  signature-room = into-room (signatureCall uid which d work) expected work after a bad n s
+  signature-room = call-room (signatureCall uid which d work) expected work after a bad n s
 
   pub signature-checked : (r : Checked) → CheckOf a expected after r → CheckedAs (result (checkCall uid which d expected work)) work r after
-  signature-checked r k = into-checked (signatureCall uid which d work) expected work after a bad n s r refl k
+  signature-checked r k = call-checked (signatureCall uid which d work) expected work after a bad n s r refl k

@@ -19,7 +19,7 @@ use Rattle.mac.specs.Modes.{answerFrom13}
 use Rattle.mac.specs.ListMode.{Call, contentOf, stream, answer}
 use Rattle.mac_theorems.specs.Demand3.{Accepted}
 use Rattle.mac.proofs.ListedElements.{never-met}
-use Rattle.mac.proofs.From13Answers.{TailAccepts, tail-accepts, tail-accepted}
+use Rattle.mac.proofs.From13Answers.{From13Accepts, from13-accepts, from13-accepted}
 
 -- a data set that the reading does not refuse
 pub record IsRead (d : List ℕ) : Type 0 where
@@ -40,7 +40,7 @@ is-read d = go (dataSet d) refl
 pub record Accepts (c : Call) : Type 0 where
   pub list : listAnswer (c .list) .number ≡ 0
   pub read : IsRead (c .set)
-  pub from13 : TailAccepts (tagsIn (c .list)) (tree (c .set)) (stream c) (c .room) (c .expected)
+  pub from13 : From13Accepts (tagsIn (c .list)) (tree (c .set)) (stream c) (c .room) (c .expected)
 
 pub accepts : (c : Call) → answer c .number ≡ 0 → Accepts c
 unfolding answer
@@ -51,7 +51,7 @@ accepts c h =
     record {
       list = list .first;
       read = is-read (c .set) (reading .first);
-      from13 = tail-accepts (tagsIn (c .list)) (tree (c .set)) (contentWritesUN (contentOf c)) (stream c) (c .room) (c .expected) (reading .second);
+      from13 = from13-accepts (tagsIn (c .list)) (tree (c .set)) (contentWritesUN (contentOf c)) (stream c) (c .room) (c .expected) (reading .second);
     }
 
 -- the answer of a call whose data set is read
@@ -70,7 +70,7 @@ unfolding contentOf
 answer-accepts c a =
     answer-read c (a .read)
     ∙ or-else-second _ _ (a .list)
-    ∙ tail-accepted (tagsIn (c .list)) (tree (c .set)) (contentWritesUN (contentOf c)) (stream c) (c .room) (c .expected) (a .from13) (never-met (tagsIn (c .list)) (tree (c .set)) (c .set) (a .from13 .found))
+    ∙ from13-accepted (tagsIn (c .list)) (tree (c .set)) (contentWritesUN (contentOf c)) (stream c) (c .room) (c .expected) (a .from13) (never-met (tagsIn (c .list)) (tree (c .set)) (c .set) (a .from13 .found))
 
 -- an accepted call's answer
 pub answer-accepted : (c : Call) → Accepted c → answer c ≡ accepted (length (stream c))

@@ -139,10 +139,10 @@ module _ (c : EitherCall) where
       or-else-regular _ _ (element-regular index (elementOf tag es) (omega arith)) λ z. tags-regular (index + 1) tags es (omega arith)
 
   -- the end of the order, where the list is not refused; 17's test is false where none of 13, 14 and 15 holds
-  pub tail-regular : (es : Elements) (metUN : Bool) → (tagsAnswer 0 (tagsIn (listOf c)) es .number ≡ 0 → metUN ≡ false) → listAnswer (listOf c) .number ≡ 0
+  pub from13-regular : (es : Elements) (metUN : Bool) → (tagsAnswer 0 (tagsIn (listOf c)) es .number ≡ 0 → metUN ≡ false) → listAnswer (listOf c) .number ≡ 0
       → Regular c (answerFrom13 (tagsIn (listOf c)) es metUN (resultOf c .stream) (roomOf c) (resultOf c .expected))
   unfolding answerFrom13
-  tail-regular es metUN unmet h =
+  from13-regular es metUN unmet h =
       or-else-regular _ _ (tags-regular 0 (tagsIn (listOf c)) es (omega arith)) λ found.
       or-else-regular _ _ (test-regular (badDigestLength (resultOf c .expected)) _ _ of9 (accepted-regular 0)) λ z.
       or-else-regular _ _ (test-regular (ltb (roomOf c) (length (resultOf c .stream))) _ _ of16 (accepted-regular 0)) λ z.
@@ -192,7 +192,7 @@ answer-regular c =
     or-else-regular k _ _ (size-regular k (ltb sizeLimit (length (c .set))) 1 (omega arith) (λ z. omega arith)) λ z.
     or-else-regular k _ _ (list-regular k) λ h.
     or-else-regular k _ _ (reading-regular k) λ z.
-    tail-regular k (tree (c .set)) (contentWritesUN (contentOf c)) (never-met (tagsIn (c .list)) (tree (c .set)) (c .set)) h
+    from13-regular k (tree (c .set)) (contentWritesUN (contentOf c)) (never-met (tagsIn (c .list)) (tree (c .set)) (c .set)) h
   where
     k : EitherCall
     k = inListMode c

@@ -15,9 +15,9 @@ use Rattle.mac.specs.TagList.{tagsIn, listAnswer}
 use Rattle.mac.specs.Result.{isAccepted}
 use Rattle.mac.specs.Selection.{selected, numberOf}
 use Rattle.mac.specs.SignatureMode.{signatureWritesUN, streamBy, answerBy, Call, selection, stream, answer, result}
-use Rattle.mac.proofs.From13Answers.{TailAccepts, tail-accepts, tail-accepted}
+use Rattle.mac.proofs.From13Answers.{From13Accepts, from13-accepts, from13-accepted}
 use Rattle.mac_theorems.proofs.Acceptance.{IsRead, is-read}
-use Rattle.mac_theorems.proofs.Answers.{Regular, plain-regular, or-else-regular, list-regular, reading-regular, tail-regular}
+use Rattle.mac_theorems.proofs.Answers.{Regular, plain-regular, or-else-regular, list-regular, reading-regular, from13-regular}
 use Rattle.mac_theorems.proofs.SelectedItem.{select-holds}
 use Rattle.mac_theorems.specs.Theorems.{EitherCall, inSignatureMode}
 use Rattle.mac.proofs.SignatureAnswers.{own-unmet}
@@ -37,7 +37,7 @@ module _ (c : Call) where
       (c .uid) (numberOf (c .which)) (tree (c .set)) (c .set)
       (λ item i list e.
       rw e at (or-else-regular k _ _ (list-regular k) λ h.
-      tail-regular k (tree (c .set)) (signatureWritesUN list item (tree (c .set)) (c .set)) (λ q. own-unmet list item (tree (c .set)) (c .set) (rw e at q)) h))
+      from13-regular k (tree (c .set)) (signatureWritesUN list item (tree (c .set)) (c .set)) (λ q. own-unmet list item (tree (c .set)) (c .set) (rw e at q)) h))
       refl
 
 -- ---- an accepted call
@@ -47,7 +47,7 @@ pub record Accepts (c : Call) : Type 0 where
   pub item : Elements
   pub selects : selection c ≡ selected list item
   pub listed : listAnswer list .number ≡ 0
-  pub from13 : TailAccepts (tagsIn list) (tree (c .set)) (stream c) (c .room) (c .expected)
+  pub from13 : From13Accepts (tagsIn list) (tree (c .set)) (stream c) (c .room) (c .expected)
 
 pub accepts : (c : Call) → answer c .number ≡ 0 → Accepts c
 unfolding answer answerBy stream
@@ -57,7 +57,7 @@ accepts c h =
     (c .uid) (numberOf (c .which)) (tree d) d
     (λ item i list e z.
     let l = both-accepted (listAnswer list) _ z in
-    let t = tail-accepts (tagsIn list) (tree d) (signatureWritesUN list item (tree d) d) (streamBy (selected list item) (tree d) d) (c .room) (c .expected) (l .second) in
+    let t = from13-accepts (tagsIn list) (tree d) (signatureWritesUN list item (tree d) d) (streamBy (selected list item) (tree d) d) (c .room) (c .expected) (l .second) in
     record { read = is-read d (r .first); list = list; item = item; selects = e; listed = l .first; from13 = rw e t })
     refl (r .second)
   where
@@ -68,11 +68,11 @@ accepted-answer : (c : Call) → Accepts c → answer c ≡ accepted (length (st
 unfolding answer answerBy stream
 accepted-answer c a =
     let u = own-unmet (a .list) (a .item) (tree (c .set)) (c .set) (a .from13 .found) in
-    let t : TailAccepts (tagsIn (a .list)) (tree (c .set)) (streamBy (selected (a .list) (a .item)) (tree (c .set)) (c .set)) (c .room) (c .expected) = rw (a .selects) at (a .from13) in
+    let t : From13Accepts (tagsIn (a .list)) (tree (c .set)) (streamBy (selected (a .list) (a .item)) (tree (c .set)) (c .set)) (c .room) (c .expected) = rw (a .selects) at (a .from13) in
     or-else-second _ _ (ap (λ (r : Reading Elements). answerOf r .number) (a .read .is))
     ∙ rw (a .selects) (
     or-else-second (listAnswer (a .list)) _ (a .listed)
-    ∙ tail-accepted (tagsIn (a .list)) (tree (c .set)) (signatureWritesUN (a .list) (a .item) (tree (c .set)) (c .set)) (streamBy (selected (a .list) (a .item)) (tree (c .set)) (c .set)) (c .room) (c .expected) t u
+    ∙ from13-accepted (tagsIn (a .list)) (tree (c .set)) (signatureWritesUN (a .list) (a .item) (tree (c .set)) (c .set)) (streamBy (selected (a .list) (a .item)) (tree (c .set)) (c .set)) (c .room) (c .expected) t u
     )
 
 pub answer-accepted : (c : Call) → isAccepted (result c) ≡ true → answer c ≡ accepted (length (stream c))

@@ -59,9 +59,9 @@ module _ (tags : List ℕ) (es : Elements) (some-met all-met : Bool) (first all 
       ∙ room-again (ltb room (length first)) (ltb room (length all)) refl refl
       ∙ ap (λ (x : Answer). (if ltb room (length all) then refused 16 0 else accepted 0) orElse x) (sym (rw (unmet′ z) (or-else-second (accepted 0) _ refl)))
 
-  tail-more : answerFrom13 tags es all-met all room expected ≡ (answerFrom13 tags es some-met first room expected orElse whole)
+  from13-more : answerFrom13 tags es all-met all room expected ≡ (answerFrom13 tags es some-met first room expected orElse whole)
   unfolding answerFrom13
-  tail-more = go (eqb (t .number) 0) refl
+  from13-more = go (eqb (t .number) 0) refl
     where
       digest : Answer
       digest = if badDigestLength expected then refused 9 0 else accepted 0
@@ -107,7 +107,7 @@ module _ (c : Call) (list : List ℕ) (item : Elements) (e : selection c ≡ sel
     unfolding listMode.contentOf
     answers =
         let n = ap length streams ∙ length-append (listMode.stream (asList c list)) (elementsStream (own item) d) in
-        let m = tail-more (tagsIn list) es (contentWritesUN (listMode.contentOf (asList c list))) (signatureWritesUN list item es d) (listMode.stream (asList c list)) (stream c) (c .room) (c .expected)
+        let m = from13-more (tagsIn list) es (contentWritesUN (listMode.contentOf (asList c list))) (signatureWritesUN list item es d) (listMode.stream (asList c list)) (stream c) (c .room) (c .expected)
         (never-met (tagsIn list) es d) (own-unmet list item es d) (omega (arith, n)) in
         signature-answer ∙ ap (λ (x : Answer). listAnswer list orElse x) m
         ∙ sym (ap (λ (x : Answer). x orElse whole-of) (answer-read (asList c list) r) ∙ or-else-assoc (listAnswer list) _ whole-of)

@@ -11,19 +11,19 @@ write-stream-requires : tie.Need-write-stream-requires
 write-stream-requires c κs = search needs
 
 returns : tie.Need-returns
-returns c = search steps.tail-tags
+returns c = search steps.from13-tags
 
 refused-requires : tie.Need-refused-requires
 refused-requires c κs = search needs
 
 returns-2 : tie.Need-returns-2
-returns-2 c = search steps.tail-digest
+returns-2 c = search steps.from13-digest
 
 refused-requires-2 : tie.Need-refused-requires-2
 refused-requires-2 c κs = search needs
 
 returns-3 : tie.Need-returns-3
-returns-3 c = search steps.tail-room
+returns-3 c = search steps.from13-room
 
 write-stream-requires-2 : tie.Need-write-stream-requires-2
 write-stream-requires-2 c κs = search needs
@@ -32,7 +32,7 @@ same-length : tie.Need-same-length
 same-length c = search needs
 
 returns-4 : tie.Need-returns-4
-returns-4 c = search steps.tail-written
+returns-4 c = search steps.from13-written
 
 pub answer-from-13-spec : {M : Type 1} → statement M
 answer-from-13-spec =

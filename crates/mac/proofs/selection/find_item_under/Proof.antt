@@ -14,7 +14,7 @@ find-item-requires : tie.Need-find-item-requires
 find-item-requires c κs = search (places.items-lie, places.items-level)
 
 returns-2 : tie.Need-returns-2
-returns-2 c = search places.item-chosen
+returns-2 c = search places.item-found
 
 pub find-item-under-spec : {M : Type 1} → statement M
 find-item-under-spec = tie.close (tie.spec enum-known-p returns find-item-requires returns-2)

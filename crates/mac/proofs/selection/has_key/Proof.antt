@@ -11,13 +11,13 @@ enum-known-key-2 : tie.Need-enum-known-key-2
 enum-known-key-2 c = search needs
 
 same-mac-id-requires : tie.Need-same-mac-id-requires
-same-mac-id-requires c κs = search (tests.wanted-order, tests.wanted-inside)
+same-mac-id-requires c κs = search (tests.key-order, tests.key-inside)
 
 returns : tie.Need-returns
-returns c = search tests.wanted-number
+returns c = search tests.key-number
 
 returns-2 : tie.Need-returns-2
-returns-2 c = search tests.wanted-id
+returns-2 c = search tests.key-id
 
 pub has-key-spec : {M : Type 1} → statement M
 has-key-spec =
