@@ -1,4 +1,5 @@
--- The answer of a call: 01, "Numbers that come back". "An answer is a number, a position and a length." `Answer` is the struct of src/lib.rt.
+-- The answer of a call: 01, "Numbers that come back". "An answer is a number, a position and a length." `Answer` is the struct of
+-- src/lib.rt.
 -- Assumes nothing.
 use Prim.Native.Nat.{ℕ}
 use lib.Dec.{eqb}

@@ -1,5 +1,5 @@
--- A loop that walks over the elements of a data set, of `write_elements` or of `write_own`: by which elements hold UN, their stream, and which
--- elements are kept in this turn. Assumes nothing.
+-- A loop that walks over the elements of a data set, of `write_elements` or of `write_own`: by which elements hold UN, their stream, and
+-- which elements are kept in this turn. Assumes nothing.
 use Prim.Native.Nat.{ℕ, _+_, _-_, _≤_, _<_}
 use mathlib.Core.Path.{_≡_, refl}
 use mathlib.Core.Bool.{Bool, false, _||_}

@@ -23,7 +23,7 @@ use Rattle.mac.specs.Inner.Listed.{listedAnswer, ListedLeaves}
 use Rattle.mac.proofs.OutputSteps.{sets-append}
 use Rattle.mac.proofs.Finding.{find-past, find-here}
 
--- ---- tags in ascendingAnswer order, from `least` on
+-- ---- tags in ascending order, from `least` on
 abbrev pub Ascends : (index least : ℕ) → List ℕ → Type 0
 Ascends index least tags = ascendingAnswer index least tags ≡ accepted 0
 

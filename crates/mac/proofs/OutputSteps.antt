@@ -1,4 +1,4 @@
--- Runs of bytes: parts of a list, and what is written of them. A byte past the end of a list is not written.
+-- OutputSteps of bytes: parts of a list, and what is written of them. A byte past the end of a list is not written.
 -- Assumes nothing.
 use Prim.Native.Nat.{ℕ, zero, suc, _+_, _-_, _≤_, _<_}
 use native.Mathlib.Nat.{add-zero}

@@ -1,5 +1,5 @@
--- Signed content (a term of 01): "each listed element's tag and VR with its value", with no offsets and no lengths. "It is defined without the
--- stream."
+-- Signed content (a term of 01): "each listed element's tag and VR with its value", with no offsets and no lengths. "It is defined
+-- without the stream."
 -- Assumes nothing.
 use Prim.Native.Nat.{ℕ}
 use mathlib.Core.Bool.{Bool, true, false, _||_}
@@ -12,8 +12,8 @@ use Rattle.dataset.specs.Lookup.{elementOf}
 use Rattle.mac.specs.TagList.{barred, unlessBarred}
 
 mutual
-  -- an element's tag and VR with its value; a sequence's VR is SQ, that of fragments OB. "A row of fragments and a value of bytes are never the
-  -- same value, even when both are empty."
+  -- an element's tag and VR with its value; a sequence's VR is SQ, that of fragments OB. "A row of fragments and a value of bytes are
+  -- never the same value, even when both are empty."
   pub data SignedElement : Type 0 where
     value : (tag vr : ℕ) (bytes : List ℕ) → SignedElement
     sequence : (tag : ℕ) (items : SignedItems) → SignedElement

@@ -1,5 +1,5 @@
--- List mode (a term of 01): "the MAC stream for a bare tag list"; "List mode has no signature fields." One definition of the answer, for the
--- stream and for the check.
+-- List mode (a term of 01): "the MAC stream for a bare tag list"; "List mode has no signature fields." One definition of the answer, for
+-- the stream and for the check.
 -- Assumes nothing.
 use Prim.Native.Nat.{ℕ}
 use mathlib.Core.List.{List}

@@ -1,5 +1,5 @@
--- Which signature item, parameters item and list signature mode takes: 01, "The stream", its last paragraph; 18 to 23. The definitions are over
--- the elements of a data set: those of the whole, or of an item, which "is a data set" too.
+-- Which signature item, parameters item and list signature mode takes: 01, "The stream", its last paragraph; 18 to 23. The definitions are
+-- over the elements of a data set: those of the whole, or of an item, which "is a data set" too.
 -- Assumes nothing.
 use Prim.Native.Nat.{ℕ, _+_, _-_}
 use mathlib.Core.Bool.{Bool, true, false, not, _&&_, _||_}
@@ -81,7 +81,8 @@ abbrev pub twoBytes : Option (List ℕ) → Option (List ℕ)
 twoBytes Opt.none = Opt.none
 twoBytes (some value) = if eqb (length value) 2 then some value else Opt.none
 
--- an item's MAC ID Number. 19: "signature item lacks (0400,0005) as US of length 2"; an item of (4FFE,0001) has its number "as US of length 2" too
+-- an item's MAC ID Number. 19: "signature item lacks (0400,0005) as US of length 2"; an item of (4FFE,0001) has its number "as US of
+-- length 2" too
 unfoldable pub macIdOf : Elements → List ℕ → Option (List ℕ)
 macIdOf item d = twoBytes (valueOf US (elementOf macIdNumber item) d)
 
@@ -139,7 +140,8 @@ badAlgorithm (some value) = not (isTerm SHA256 value)
 
 -- ---- the selection, 18 to 23
 
--- what it gives: the number of a refusal; or the list ("The list is this parameters item's (0400,0020)") and the elements of the signature item
+-- what it gives: the number of a refusal; or the list ("The list is this parameters item's (0400,0020)") and the elements of the
+-- signature item
 pub data Selection : Type 0 where
   refusal : (number : ℕ) → Selection
   selected : (list : List ℕ) (item : Elements) → Selection

@@ -45,15 +45,15 @@ named tag = eqb tag certificateOfSigner || (eqb tag signatureValue || (eqb tag c
 unfoldable pub leftOut : Element → Bool
 leftOut e = named (tagOf e) || (barred (tagOf e) || (isUN e || holdsUN e))
 
--- "SignatureItem the listed elements come the signature item's own": those that are not left out. "the four named tags are left out at the item's own level only": inside its
--- sequences they are written. (Barred elements inside its sequences are left out by `elementsStream`.)
+-- "After the listed elements come the signature item's own": those that are not left out. "the four named tags are left out at the item's
+-- own level only": inside its sequences they are written. (Barred elements inside its sequences are left out by `elementsStream`.)
 unfoldable pub own : Elements → Elements
 own Elements.none = Elements.none
 own (Elements.and e rest) = if leftOut e then own rest else Elements.and e (own rest)
 
 -- ---- what is written
 
--- the stream: "SignatureItem the listed elements come the signature item's own, by the same rules"
+-- the stream: "After the listed elements come the signature item's own, by the same rules"
 unfoldable pub streamBy : Selection → Elements → (d : List ℕ) → List ℕ
 streamBy (refusal number) es d = []
 streamBy (selected list item) es d = listedStream (tagsIn list) es d ++ elementsStream (own item) d
@@ -70,8 +70,9 @@ answerBy (selected list item) es d room expected =
 
 -- ---- a call
 
--- A call in signature mode, for the stream or for the check: "the UID of the transfer syntax the caller says the data set has, and a signature number, counted from 0, or
--- none"; the data set; the output room; and the expected digest, which a call for the stream has not.
+-- A call in signature mode, for the stream or for the check: "the UID of the transfer syntax the caller says the data set has, and a
+-- signature number, counted from 0, or none"; the data set; the output room (a term of 01: "the length of the output or, in a check, of the
+-- work buffer"); and the expected digest, which a call for the stream has not.
 pub record Call : Type 0 where
   pub uid : List ℕ
   pub which : Signature
@@ -79,6 +80,7 @@ pub record Call : Type 0 where
   pub room : ℕ
   pub expected : Option (List ℕ)
 
+-- what the call selects: "18 to 23"
 abbrev pub selection : Call → Selection
 selection c = select (c .uid) (numberOf (c .which)) (tree (c .set)) (c .set)
 
@@ -90,10 +92,11 @@ stream c = streamBy (selection c) (tree (c .set)) (c .set)
 unfoldable pub answer : Call → Answer
 answer c = answerOf (dataSet (c .set)) orElse answerBy (selection c) (tree (c .set)) (c .set) (c .room) (c .expected)
 
+-- what the call comes to
 abbrev pub result : Call → Result
 result c = record { answer = answer c; stream = stream c; expected = c .expected }
 
--- ---- what the functions promise
+-- ---- the calls that the functions make; what they promise of them is `Streamed` and `CheckedAs`
 
 -- signature mode for the stream, into the output `out`
 abbrev pub streamCall : (uid : List ℕ) (which : Signature) (set out : List ℕ) → Call

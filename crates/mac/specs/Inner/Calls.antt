@@ -25,7 +25,7 @@ use Rattle.mac.specs.declared.modes.SignatureItem.{SignatureItem}
 use Rattle.mac.specs.declared.modes.SignatureItem.the-variants as signatureItem
 use Rattle.mac.specs.declared.signature_mode.Signature.{Signature}
 
--- ---- the listed elements and what item them
+-- ---- the listed elements and what follows them
 
 -- a data set that is read in the extent x
 pub record ItemReads (d : List ℕ) (x : Extent) : Type 0 where

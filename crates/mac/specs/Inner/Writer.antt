@@ -1,6 +1,6 @@
--- For inner contracts; no part of what a reader has to believe: the walk that reads, finds UN, measures and writes. It answers the fault of its
--- reading, or what was read; where the reading is good it leaves the stream in the output. A byte past the end of the output is not written, so
--- that a walk with an empty output measures.
+-- For inner contracts; no part of what a reader has to believe: the walk that reads, finds UN, measures and writes. It answers the fault of
+-- its reading, or what was read; where the reading is good it leaves the stream in the output. A byte past the end of the output is not
+-- written, so that a walk with an empty output measures.
 -- Assumes nothing.
 use Prim.Native.Nat.{ℕ, _+_}
 use mathlib.Core.Path.{_≡_}

@@ -1,4 +1,4 @@
--- `write_stream` meets its contract: each place by its law in AllSteps. Assumes nothing.
+-- `write_stream` meets its contract: each place by its law in StreamWalkSteps. Assumes nothing.
 use Rattle.mac.proofs.StreamWalkSteps as steps
 use borrow.Author.Needs.{needs}
 use Rattle.mac.proofs.modes.write_stream.Statement.{statement}

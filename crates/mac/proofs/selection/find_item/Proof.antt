@@ -1,4 +1,4 @@
--- `find_item` meets its contract: the invariant is `FindItemLoop`, and each place is a law of ChooseSteps. Assumes nothing.
+-- `find_item` meets its contract: the invariant is `FindItemLoop`, and each place is a law of FindItemSteps. Assumes nothing.
 use Rattle.mac.proofs.FindItemSteps as steps
 use borrow.Author.Needs.{needs}
 use Prim.Native.Nat.{_-_}
