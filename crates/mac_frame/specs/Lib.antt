@@ -1,4 +1,4 @@
 pub mod Text
 pub mod Frame
--- for inner contracts only; a reader need not believe it
-pub mod Wrote
+-- for inner contracts; a reader need not believe it
+pub mod Inner

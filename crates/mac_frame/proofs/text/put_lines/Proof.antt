@@ -34,7 +34,8 @@ loop-again : tie.Need-loop-again Inv-loop μ-loop
 loop-again c =
     let at-hex = c .before .before in
     let at-ends = at-hex .before .before .before in
-    lines-again _ _ _ _ _ _ _ _ _ (at-ends .before .before .loop .inv) (at-ends .before .loop-test .taken) (at-ends .ends-line .ensures) (at-hex .put-hex .ensures)
+    lines-again _ _ _ _ _ _ _ _ _ (at-ends .before .before .loop .inv) (at-ends .before .loop-test .taken) (at-ends .ends-line .ensures)
+    (at-hex .put-hex .ensures)
 
 same-length : tie.Need-same-length Inv-loop μ-loop
 same-length c = search needs
