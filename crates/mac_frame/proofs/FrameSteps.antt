@@ -75,39 +75,45 @@ module _ (s : List ℕ) where
                 eq-eqb (length s) (9 + list + set) h,
               )
 
--- ---- what a good frame holds
+-- ---- what is known of a good frame
+pub record Good (s : List ℕ) (end : ℕ) : Type 0 where
+  pub small : length s ≤ inputLimit
+  pub version : getD s 0 0 ≡ 1
+  pub ends : end ≡ 5 + big32 s 1
+  pub fills : length s ≡ 9 + big32 s 1 + big32 s (5 + big32 s 1)
+
 module _ (s : List ℕ) (end : ℕ) (good : frame.ListEnds end ≡ frameOf s) where
   not-bad : frame.Bad ≡ frameOf s → ⊥
   not-bad bad = let z : _≡_ {A = ℕ} 0 1 = cc in omega arith
 
   fills-by : length s ≤ inputLimit → 5 ≤ length s → getD s 0 0 ≡ 1 → 9 + big32 s 1 ≤ length s → (b : Bool)
-      → eqb (length s) (9 + big32 s 1 + big32 s (5 + big32 s 1)) ≡ b → Holds s end
+      → eqb (length s) (9 + big32 s 1 + big32 s (5 + big32 s 1)) ≡ b → Good s end
   fills-by h₁ h₂ h₃ h₄ true e =
       let n : length s ≡ 9 + big32 s 1 + big32 s (5 + big32 s 1) = eqb-true (length s) (9 + big32 s 1 + big32 s (5 + big32 s 1)) e in
       let p : end ≡ 5 + big32 s 1 = let q = good ∙ sym (filled s h₁ h₂ h₃ (big32 s 1) refl h₄ (big32 s (5 + big32 s 1)) refl n) in cc in
-      record { least = omega arith; inside = omega arith; small = h₁ }
+      record { small = h₁; version = h₃; ends = p; fills = n }
   fills-by h₁ h₂ h₃ h₄ false e =
       let n = eqb-false (length s) (9 + big32 s 1 + big32 s (5 + big32 s 1)) e in
       absurd (not-bad (not-filled s h₁ h₂ h₃ (big32 s 1) refl h₄ (big32 s (5 + big32 s 1)) refl n))
 
-  list-by : length s ≤ inputLimit → 5 ≤ length s → getD s 0 0 ≡ 1 → Dec (length s < 9 + big32 s 1) → Holds s end
+  list-by : length s ≤ inputLimit → 5 ≤ length s → getD s 0 0 ≡ 1 → Dec (length s < 9 + big32 s 1) → Good s end
   list-by h₁ h₂ h₃ (yes p) = absurd (not-bad (list-past s h₁ h₂ h₃ (big32 s 1) refl p))
   list-by h₁ h₂ h₃ (no p) = fills-by h₁ h₂ h₃ (omega arith) (eqb (length s) (9 + big32 s 1 + big32 s (5 + big32 s 1))) refl
 
-  version-by : length s ≤ inputLimit → 5 ≤ length s → (b : Bool) → eqb (getD s 0 0) 1 ≡ b → Holds s end
+  version-by : length s ≤ inputLimit → 5 ≤ length s → (b : Bool) → eqb (getD s 0 0) 1 ≡ b → Good s end
   version-by h₁ h₂ true e = list-by h₁ h₂ (eqb-true (getD s 0 0) 1 e) (decLt (length s) (9 + big32 s 1))
   version-by h₁ h₂ false e = absurd (not-bad (other-version s h₁ h₂ (eqb-false (getD s 0 0) 1 e)))
 
-  short-by : length s ≤ inputLimit → Dec (length s < 5) → Holds s end
+  short-by : length s ≤ inputLimit → Dec (length s < 5) → Good s end
   short-by h₁ (yes p) = absurd (not-bad (too-short s h₁ p))
   short-by h₁ (no p) = version-by h₁ (omega arith) (eqb (getD s 0 0) 1) refl
 
-  long-by : Dec (inputLimit < length s) → Holds s end
+  long-by : Dec (inputLimit < length s) → Good s end
   long-by (yes p) = absurd (not-bad (too-long s p))
   long-by (no p) = short-by (omega arith) (decLt (length s) 5)
 
-  holds : Holds s end
-  holds = long-by (decLt inputLimit (length s))
+  pub good-frame : Good s end
+  good-frame = long-by (decLt inputLimit (length s))
 
 -- ---- what is printed
 module _ (c : Call) (out text : List ℕ) where
@@ -165,4 +171,6 @@ pub printed-good : (s text after : List ℕ) (r end : ℕ) (f : Frame) → f ≡
 printed-good s text after r end f e q w = printed-as s text after r f (frame.ListEnds end) e q w
 
 pub holds-matched : (s : List ℕ) (end : ℕ) (f : Frame) → f ≡ frameOf s → f ≡ frame.ListEnds end → Holds s end
-holds-matched s end f e q = holds s end (sym q ∙ e)
+holds-matched s end f e q =
+    let g = good-frame s end (sym q ∙ e) in
+    record { least = omega arith; inside = omega arith; small = g .small }

@@ -1,2 +1,4 @@
 pub mod TextSteps
 pub mod FrameSteps
+pub mod Frames
+pub mod Theorems
