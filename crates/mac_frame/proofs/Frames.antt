@@ -54,7 +54,8 @@ unfolding between
 to-the-end s a = take-all (length s - a) (drop a s) (simp length-drop (omega arith))
 
 -- ---- a frame is read
-module _ (n m list set : List ℕ) (four₁ : length n ≡ 4) (four₂ : length m ≡ 4) (e₁ : big32 n 0 ≡ length list) (e₂ : big32 m 0 ≡ length set) where
+module _ (n m list set : List ℕ) (four₁ : length n ≡ 4) (four₂ : length m ≡ 4)
+    (e₁ : big32 n 0 ≡ length list) (e₂ : big32 m 0 ≡ length set) where
   abbrev whole : List ℕ
   whole = 1 ∷ (n ++ (list ++ (m ++ set)))
 
@@ -81,7 +82,8 @@ module _ (n m list set : List ℕ) (four₁ : length n ≡ 4) (four₂ : length 
   set-part : between whole (5 + length list + 4) (length whole) ≡ set
   set-part =
       ap (λ (l : List ℕ). between l (5 + length list + 4) (length whole)) at-set
-      ∙ part-there (1 ∷ (n ++ (list ++ m))) set [] (5 + length list + 4) (length whole) (simp length-append (omega arith)) (omega (arith, size))
+      ∙ part-there (1 ∷ (n ++ (list ++ m))) set [] (5 + length list + 4) (length whole) (simp length-append (omega arith))
+      (omega (arith, size))
 
   whole-read : length whole ≤ inputLimit → ReadBack whole list set
   whole-read h =
