@@ -3,37 +3,38 @@ use crate::bytes;
 use crate::bytes::Bytes;
 use crate::calls;
 use crate::calls::Call;
+use crate::fields;
 use crate::print;
-use crate::words;
 use mac_frame::frame;
 
-// list ROOM LIST DATA
-pub(crate) fn list_case(room: &[u8], list: &[u8], set: &[u8], data: &mut [u8], out: &mut [u8]) {
-    calls::run(Call::ListStream, room, b"-", list, set, data, out);
+// NAME list ROOM LIST DATA
+pub(crate) fn list_case(line: &[u8], data: &mut [u8], out: &mut [u8]) {
+    calls::run(Call::ListStream, line, b"-", 3, 4, data, out);
 }
 
-// list-check ROOM EXPECTED LIST DATA
-pub(crate) fn check_case(
-    room: &[u8],
-    expected: &[u8],
-    list: &[u8],
-    set: &[u8],
-    data: &mut [u8],
-    out: &mut [u8],
-) {
-    calls::run(Call::ListCheck, room, expected, list, set, data, out);
+// NAME list-check ROOM EXPECTED LIST DATA
+pub(crate) fn check_case(line: &[u8], data: &mut [u8], out: &mut [u8]) {
+    calls::run(
+        Call::ListCheck,
+        line,
+        fields::field(line, 3),
+        4,
+        5,
+        data,
+        out,
+    );
 }
 
 fn print_program(input: &[u8], text: &mut [u8]) {
     let n = frame::print_frame(input, text);
     print::text(b"\n");
-    print::text(words::first(text, n));
+    print::text(fields::first(text, n));
 }
 
-// frame INPUT
-pub(crate) fn frame_case(input: &[u8], data: &mut [u8], text: &mut [u8]) {
-    match bytes::put(input, data) {
-        Bytes::Good(n) => print_program(words::first(data, n), text),
+// NAME frame INPUT
+pub(crate) fn frame_case(line: &[u8], data: &mut [u8], text: &mut [u8]) {
+    match bytes::put(fields::field(line, 2), data) {
+        Bytes::Good(n) => print_program(fields::first(data, n), text),
         Bytes::Bad => print::not_understood(),
     }
 }

@@ -1,7 +1,8 @@
 // The kinds of cases of signature mode.
 use crate::calls;
 use crate::calls::Call;
-use crate::calls::Number;
+use crate::fields;
+use crate::fields::Number;
 use crate::print;
 use mac::signature_mode::Signature;
 
@@ -15,55 +16,25 @@ fn which_of(field: &[u8]) -> Which {
     if check::same(field, b"none") {
         return Which::Good(Signature::Unnamed);
     }
-    match calls::number_of(field) {
+    match fields::number_of(field) {
         Number::Good(n) => Which::Good(Signature::Number(n as u64)),
         Number::Bad => Which::Bad,
     }
 }
 
-// signature ROOM UID WHICH DATA
-pub(crate) fn signature_case(
-    room: &[u8],
-    uid: &[u8],
-    which: &[u8],
-    set: &[u8],
-    data: &mut [u8],
-    out: &mut [u8],
-) {
-    match which_of(which) {
-        Which::Good(signature) => calls::run(
-            Call::SignatureStream(signature),
-            room,
-            b"-",
-            uid,
-            set,
-            data,
-            out,
-        ),
+// NAME signature ROOM UID WHICH DATA
+pub(crate) fn signature_case(line: &[u8], data: &mut [u8], out: &mut [u8]) {
+    match which_of(fields::field(line, 4)) {
+        Which::Good(s) => calls::run(Call::SignatureStream(s), line, b"-", 3, 5, data, out),
         Which::Bad => print::not_understood(),
     }
 }
 
-// signature-check ROOM EXPECTED UID WHICH DATA
-pub(crate) fn signature_check_case(
-    room: &[u8],
-    expected: &[u8],
-    uid: &[u8],
-    which: &[u8],
-    set: &[u8],
-    data: &mut [u8],
-    out: &mut [u8],
-) {
-    match which_of(which) {
-        Which::Good(signature) => calls::run(
-            Call::SignatureCheck(signature),
-            room,
-            expected,
-            uid,
-            set,
-            data,
-            out,
-        ),
+// NAME signature-check ROOM EXPECTED UID WHICH DATA
+pub(crate) fn signature_check_case(line: &[u8], data: &mut [u8], out: &mut [u8]) {
+    let expected = fields::field(line, 3);
+    match which_of(fields::field(line, 5)) {
+        Which::Good(s) => calls::run(Call::SignatureCheck(s), line, expected, 4, 6, data, out),
         Which::Bad => print::not_understood(),
     }
 }
