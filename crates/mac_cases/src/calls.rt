@@ -37,12 +37,49 @@ enum Sizes {
     Bad,
 }
 
-// The list or UID is field `at` of the line, the data set field `set_at`.
+// Where the fields of a call stand that are not at the same place in all; the output room is field 2, an expected digest field 3.
+struct Places {
+    expects: bool,
+    list_or_uid: usize,
+    set: usize,
+}
+
+fn places_of(call: Call) -> Places {
+    match call {
+        Call::ListStream => Places {
+            expects: false,
+            list_or_uid: 3,
+            set: 4,
+        },
+        Call::ListCheck => Places {
+            expects: true,
+            list_or_uid: 4,
+            set: 5,
+        },
+        Call::SignatureStream(_) => Places {
+            expects: false,
+            list_or_uid: 3,
+            set: 5,
+        },
+        Call::SignatureCheck(_) => Places {
+            expects: true,
+            list_or_uid: 4,
+            set: 6,
+        },
+    }
+}
+
+// The bytes of the expected digest; none where there is none.
+fn put_expected(expects: bool, line: &[u8], digest: &mut [u8]) -> Bytes {
+    if expects {
+        return bytes::put(fields::field(line, 3), digest);
+    }
+    Bytes::Good(0)
+}
+
 fn sizes_of(
+    p: Places,
     line: &[u8],
-    expected: &[u8],
-    at: usize,
-    set_at: usize,
     digest: &mut [u8],
     list_or_uid: &mut [u8],
     data: &mut [u8],
@@ -50,13 +87,13 @@ fn sizes_of(
     let Number::Good(room) = fields::number_of(fields::field(line, 2)) else {
         return Sizes::Bad;
     };
-    let Bytes::Good(e) = bytes::put(expected, digest) else {
+    let Bytes::Good(e) = put_expected(p.expects, line, digest) else {
         return Sizes::Bad;
     };
-    let Bytes::Good(k) = bytes::put(fields::field(line, at), list_or_uid) else {
+    let Bytes::Good(k) = bytes::put(fields::field(line, p.list_or_uid), list_or_uid) else {
         return Sizes::Bad;
     };
-    let Bytes::Good(n) = bytes::put(fields::field(line, set_at), data) else {
+    let Bytes::Good(n) = bytes::put(fields::field(line, p.set), data) else {
         return Sizes::Bad;
     };
     Sizes::Good {
@@ -133,15 +170,12 @@ fn print_call(
 fn run_in(
     call: Call,
     line: &[u8],
-    expected: &[u8],
-    at: usize,
-    set_at: usize,
     digest: &mut [u8],
     list_or_uid: &mut [u8],
     data: &mut [u8],
     out: &mut [u8],
 ) {
-    match sizes_of(line, expected, at, set_at, digest, list_or_uid, data) {
+    match sizes_of(places_of(call), line, digest, list_or_uid, data) {
         Sizes::Good {
             room,
             expected: e,
@@ -159,28 +193,9 @@ fn run_in(
     }
 }
 
-// Runs a case of either mode, with rooms for its expected digest, which is - where it has none, and for its list or UID. The list or UID is
-// field `at` of the line, the data set field `set_at`.
-pub(crate) fn run(
-    call: Call,
-    line: &[u8],
-    expected: &[u8],
-    at: usize,
-    set_at: usize,
-    data: &mut [u8],
-    out: &mut [u8],
-) {
+// Runs the call of a line, with rooms for its expected digest and for its list or UID.
+pub(crate) fn run(call: Call, line: &[u8], data: &mut [u8], out: &mut [u8]) {
     let mut digest = [0u8; 128];
     let mut list_or_uid = [0u8; 8192];
-    run_in(
-        call,
-        line,
-        expected,
-        at,
-        set_at,
-        &mut digest,
-        &mut list_or_uid,
-        data,
-        out,
-    );
+    run_in(call, line, &mut digest, &mut list_or_uid, data, out);
 }

@@ -66,6 +66,14 @@ pub(crate) fn count(line: &[u8]) -> usize {
     fields
 }
 
+// Whether the line is of this kind: its second field is the kind, and it has so many fields.
+pub(crate) fn is(line: &[u8], kind: &[u8], fields: usize) -> bool {
+    if count(line) != fields {
+        return false;
+    }
+    check::same(field(line, 1), kind)
+}
+
 // A number of 64 bits.
 pub(crate) enum Number {
     Good(usize),

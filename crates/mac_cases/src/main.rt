@@ -11,11 +11,11 @@
 mod bytes;
 mod calls;
 mod fields;
+mod frame_kind;
 mod kinds;
-mod list_kinds;
+mod mode_kinds;
 mod print;
 mod reading_kinds;
-mod signature_kinds;
 
 // Runs each line of the text, with rooms for a case's data set and for its output.
 fn run(text: &[u8], data: &mut [u8], out: &mut [u8]) {
