@@ -8,28 +8,28 @@ use mathlib.Core.Option.{Option, some}
 use mathlib.Core.Option as Opt
 use native.Mathlib.Decide.{decLt}
 use native.Mathlib.Omega.{arith}
-use borrow.Author.Tests.{eq-eqb, ne-eqb, eqb-true, eqb-false}
+use borrow.Author.Tests.{eq-eqb, ne-eqb, eqb-true}
 use lib.Dec.{eqb, ltb}
 use lib.ListN.{length, length-append}
 use Rattle.answer.specs.declared.Answer.{Answer}
 use Rattle.answer.specs.If.{if_then_else_}
-use Rattle.answer.specs.Answer.{accepted, refused, _orElse_}
+use Rattle.answer.specs.Answer.{refused, _orElse_}
 use Rattle.answer.proofs.Chain.{or-else-holds}
 use Rattle.dataset.specs.Reading.{Reading, fault, read, sizeLimit, dataSet, answerOf, tree}
 use Rattle.dataset.specs.Tree.{Element, Elements}
 use Rattle.dataset.specs.Lookup.{elementOf}
 use Rattle.dataset.proofs.Theorems as dataset
 use Rattle.mac.specs.TagList.{tagsIn, ascendingAnswer, unbarredAnswer, barred, badSize, listAnswer}
-use Rattle.mac.specs.UN.{isUN, holdsUN, contentWritesUN}
+use Rattle.mac.specs.UN.{isUN, holdsUN}
 use Rattle.mac.specs.Modes.{elementAnswer, tagsAnswer, badDigestLength, answerFrom13}
-use Rattle.mac.specs.ListMode.{Call, answer, stream, contentOf, result}
+use Rattle.mac.specs.ListMode.{Call, answer, stream, result}
 use Rattle.mac.specs.Result.{isAccepted}
 use Rattle.mac.proofs.Slices.{length-between}
 use Rattle.mac_theorems.specs.Theorems.{inListMode, Positioned}
 use Rattle.mac_theorems.proofs.Theorems as mac
 use Rattle.mac_theorems.proofs.Acceptance.{answer-accepted}
-use Rattle.mac_frame.specs.Text.{hex, isEmpty, lineEnd, hexFrom, hexLines, line}
-use Rattle.mac_frame.specs.Frame.{outputRoom, frameOf, frameCall, report, printedBy, printed}
+use Rattle.mac_frame.specs.Text.{hex, isEmpty, lineEnd, hexFrom}
+use Rattle.mac_frame.specs.Frame.{frameOf, frameCall, report, printedBy, printed}
 use Rattle.mac_frame.specs.declared.frame.Frame.{Frame}
 use Rattle.mac_frame.specs.declared.frame.Frame.the-variants as frame
 use Rattle.mac_frame.proofs.TextSteps.{length-line}

@@ -1,6 +1,6 @@
 -- A frame is the version byte, two lengths, list and data set, one after the other.
 -- Assumes nothing.
-use Prim.Native.Nat.{ℕ, _+_, _-_, _*_, _^_, _<_, _≤_}
+use Prim.Native.Nat.{ℕ, _+_, _-_, _<_, _≤_}
 use mathlib.Core.Path.{_≡_, refl, sym, ap, ap₂, subst, _∙_}
 use mathlib.Core.List.{List, [], _∷_, _++_, append-assoc, append-nil}
 use native.Mathlib.Nat.{add-zero}
@@ -12,7 +12,7 @@ use Rattle.mac.proofs.Slices.{length-between}
 use Rattle.mac_frame.specs.Frame.{inputLimit, big32, frameOf, frameCall}
 use Rattle.mac_frame.specs.Theorems.{Framed, callOf, ReadBack}
 use Rattle.mac_frame.specs.declared.frame.Frame.the-variants as frame
-use Rattle.mac_frame.proofs.FrameSteps.{filled, Good, good-frame}
+use Rattle.mac_frame.proofs.FrameSteps.{filled, good-frame}
 
 -- ---- a length by its four bytes
 same-bytes : (s n : List ℕ) (i : ℕ) → ((k : ℕ) → k < 4 → getD s (i + k) 0 ≡ getD n k 0) → big32 s i ≡ big32 n 0

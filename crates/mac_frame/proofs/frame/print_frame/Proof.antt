@@ -1,5 +1,4 @@
 use Rattle.mac_frame.proofs.FrameSteps as steps
-use Prim.Native.Nat.{ℕ, _+_, _-_, _*_, _<_, _≤_}
 use borrow.Author.Needs.{needs}
 use Rattle.mac_frame.proofs.frame.print_frame.Statement.{statement}
 use Rattle.mac_frame.proofs.frame.print_frame.Tie as tie

@@ -9,7 +9,6 @@ use Rattle.mac.specs.ListMode.{Call, answer, result}
 use Rattle.mac_frame.specs.Frame.{frameCall}
 use Rattle.mac_frame.proofs.TextSteps.{length-line}
 use Rattle.mac_frame.proofs.FrameSteps.{report-refused, report-accepted, within-room, frame-call}
-use Prim.Native.Nat.{_-_, _≤_}
 use borrow.Author.Needs.{needs}
 use Rattle.mac_frame.proofs.frame.report.Statement.{statement}
 use Rattle.mac_frame.proofs.frame.report.Tie as tie

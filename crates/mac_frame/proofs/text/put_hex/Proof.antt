@@ -1,5 +1,4 @@
 use Rattle.mac_frame.proofs.TextSteps.{hex-ended, hex-open}
-use Prim.Native.Nat.{ℕ, _+_, _-_, _*_, _<_, _≤_}
 use borrow.Author.Needs.{needs}
 use Rattle.mac_frame.proofs.text.put_hex.Statement.{statement}
 use Rattle.mac_frame.proofs.text.put_hex.Tie as tie

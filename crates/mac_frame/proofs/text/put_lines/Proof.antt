@@ -1,7 +1,6 @@
-use native.Mathlib.Omega.{arith}
 use Rattle.mac_frame.proofs.TextSteps.{Lines, lines-start, lines-again, lines-end}
 use borrow.Author.Needs.{needs}
-use Prim.Native.Nat.{ℕ, _+_, _-_, _*_, _<_, _≤_}
+use Prim.Native.Nat.{_-_}
 use lib.ListN.{length}
 use Rattle.mac_frame.proofs.text.put_lines.Statement.{statement}
 use Rattle.mac_frame.proofs.text.put_lines.Tie as tie
