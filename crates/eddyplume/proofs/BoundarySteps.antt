@@ -18,7 +18,8 @@ use Rattle.mac.specs.SignatureMode as mode
 use Rattle.mac.specs.declared.signature_mode.Signature.{Signature}
 use Rattle.mac.specs.declared.signature_mode.Signature.the-variants as signature
 use Rattle.mac.specs.declared.verdict.Checked.{Checked}
-use Rattle.eddyplume.specs.Boundary.{answerWords, verdictCode, whichOf, word, StreamedTo, CheckedTo, LookedUp, digestAfter, HashedTo, Holds, FedTo, FinishedTo}
+use Rattle.eddyplume.specs.Boundary.{answerWords, verdictCode, whichOf, flag, StreamedTo, CheckedTo, LookedUp}
+use Rattle.eddyplume.specs.Boundary.{digestAfter, HashedTo, Holds, FedTo, FinishedTo}
 
 pub which-number : (numbered : Bool) (number : ℕ) → numbered ≡ true → signature.Number number ≡ whichOf numbered number
 which-number numbered number h = rw h
@@ -31,12 +32,18 @@ module _ (c b : Result) (e : b ≡ c) (out after : List ℕ) (words : List ℕ) 
   pub streamed-to : (a : Answer) → Streamed b out a after → words ≡ answerWords a → StreamedTo c out after words
   streamed-to a s q = rw (← e) record { answers = q ∙ ap answerWords (s .answers); output = s .output }
 
-  pub checked-to : (r : Checked) (code : ℕ) → CheckedAs b out r after → words ≡ answerWords (r .answer) → code ≡ verdictCode (r .verdict) → CheckedTo c out after words (code ∷ [])
+  pub checked-to : (r : Checked) (code : ℕ) → CheckedAs b out r after → words ≡ answerWords (r .answer) → code ≡ verdictCode (r .verdict)
+      → CheckedTo c out after words (code ∷ [])
   checked-to r code s q k =
-      rw (← e) record { answers = q ∙ ap answerWords (s .answers); says = ap (λ (n : ℕ). n ∷ []) (k ∙ ap verdictCode (s .says)); output = s .output }
+      rw (← e) record {
+        answers = q ∙ ap answerWords (s .answers);
+        says = ap (λ (n : ℕ). n ∷ []) (k ∙ ap verdictCode (s .says));
+        output = s .output;
+      }
 
 -- in signature mode they differ in the choice of the signature
-pub same-stream-call : (uid : List ℕ) (w v : Signature) (d out : List ℕ) → w ≡ v → mode.result (mode.streamCall uid w d out) ≡ mode.result (mode.streamCall uid v d out)
+pub same-stream-call : (uid : List ℕ) (w v : Signature) (d out : List ℕ) → w ≡ v
+    → mode.result (mode.streamCall uid w d out) ≡ mode.result (mode.streamCall uid v d out)
 same-stream-call uid w v d out e = rw e
 
 pub same-check-call : (uid : List ℕ) (w v : Signature) (d expected work : List ℕ) → w ≡ v
@@ -44,7 +51,8 @@ pub same-check-call : (uid : List ℕ) (w v : Signature) (d expected work : List
 same-check-call uid w v d expected work e = rw e
 
 -- ---- the lookup
-pub looked-up : (f g : Found) (words : List ℕ) (p : ℕ) → g ≡ f → words ≡ answerWords (g .answer) → p ≡ word (g .present) → LookedUp f words (p ∷ g .start ∷ g .length ∷ [])
+pub looked-up : (f g : Found) (words : List ℕ) (p : ℕ) → g ≡ f → words ≡ answerWords (g .answer) → p ≡ flag (g .present)
+    → LookedUp f words (p ∷ g .start ∷ g .length ∷ [])
 looked-up f g words p e q k = rw (← e) record { answers = q; parts = rw k }
 
 -- ---- the digest

@@ -1,5 +1,6 @@
--- What the exported C functions write, in C's terms: include/eddyplume.h. An array of the code is the list of its numbers. `StreamedTo` and `CheckedTo` are `Streamed` and `CheckedAs`
--- of mac with the answer in words, so that what is proved of those calls is said of these too.
+-- What the exported functions write, in C's values (include/eddyplume.h); 01 is silent on C. An array of the code is the list of its
+-- numbers. `StreamedTo` and `CheckedTo` are `Streamed` and `CheckedAs` of mac with the answer as three numbers, so that what is proved of
+-- those calls is said of these too.
 -- Assumes nothing.
 use Prim.Native.Nat.{ℕ}
 use mathlib.Core.Path.{_≡_}
@@ -10,11 +11,15 @@ use lib.ListN.{getD}
 use Rattle.answer.specs.declared.Answer.{Answer}
 use Rattle.answer.specs.If.{if_then_else_}
 use Rattle.dataset.specs.declared.lookup.Found.{Found}
+use Rattle.digest.specs.Running.{feeding, finishing}
+use Rattle.digest.specs.Sha256.{sha256}
 use Rattle.digest.specs.declared.message.Hashed.{Hashed}
 use Rattle.digest.specs.declared.running.Running.{Running}
 use Rattle.digest.specs.declared.running.Fed.{Fed}
 use Rattle.digest.specs.declared.running.Finished.{Finished}
+use Rattle.mac.specs.ListMode as listMode
 use Rattle.mac.specs.Result.{Result, outputAfter, verdictOf}
+use Rattle.mac.specs.SignatureMode as signatureMode
 use Rattle.mac.specs.declared.signature_mode.Signature.{Signature}
 use Rattle.mac.specs.declared.signature_mode.Signature.the-variants as signature
 use Rattle.mac.specs.declared.verdict.Verdict.{Verdict}
@@ -24,13 +29,13 @@ use Rattle.mac.specs.declared.verdict.Verdict.the-variants as verdict
 abbrev pub answerWords : Answer → List ℕ
 answerWords a = a .number ∷ a .position ∷ a .length ∷ []
 
--- uint8_t verdict[1]: 0 neither, 1 same, 2 differs
+-- uint8_t verdict[1]: 0 neither, 1 same, 2 differs (docs/DECISIONS.md, B3)
 abbrev pub verdictCode : Verdict → ℕ
 verdictCode verdict.Neither = 0
 verdictCode verdict.Same = 1
 verdictCode verdict.Differs = 2
 
--- bool numbered, uint64_t number: a signature number, or none
+-- bool numbered, uint64_t number: a signature number, or none (docs/DECISIONS.md, S8)
 abbrev pub whichOf : (numbered : Bool) (number : ℕ) → Signature
 whichOf true number = signature.Number number
 whichOf false number = signature.Unnamed
@@ -46,17 +51,36 @@ pub record CheckedTo (c : Result) (work after answer verdict : List ℕ) : Type 
   pub says : verdict ≡ verdictCode (verdictOf c) ∷ []
   pub output : after ≡ outputAfter c work
 
--- a yes or no in a word
-abbrev pub word : Bool → ℕ
-word true = 1
-word false = 0
+-- eddyplume_list_stream
+abbrev pub ListStreamed : (list set out after answer : List ℕ) → Type 0
+ListStreamed list set out after answer = StreamedTo (listMode.result (listMode.streamCall list set out)) out after answer
 
--- uint64_t part[3]: present, start, length of the value in the data set
+-- eddyplume_list_check
+abbrev pub ListChecked : (list set expected work after answer verdict : List ℕ) → Type 0
+ListChecked list set expected work after answer verdict =
+    CheckedTo (listMode.result (listMode.checkCall list set expected work)) work after answer verdict
+
+-- eddyplume_signature_stream
+abbrev pub SignatureStreamed : (uid : List ℕ) (numbered : Bool) (number : ℕ) (set out after answer : List ℕ) → Type 0
+SignatureStreamed uid numbered number set out after answer =
+    StreamedTo (signatureMode.result (signatureMode.streamCall uid (whichOf numbered number) set out)) out after answer
+
+-- eddyplume_signature_check
+abbrev pub SignatureChecked : (uid : List ℕ) (numbered : Bool) (number : ℕ) (set expected work after answer verdict : List ℕ) → Type 0
+SignatureChecked uid numbered number set expected work after answer verdict =
+    CheckedTo (signatureMode.result (signatureMode.checkCall uid (whichOf numbered number) set expected work)) work after answer verdict
+
+-- a yes or no: 1 or 0
+abbrev pub flag : Bool → ℕ
+flag true = 1
+flag false = 0
+
+-- uint64_t part[3]: present, start, length of the value in the data set (docs/DECISIONS.md, B3)
 pub record LookedUp (f : Found) (answer part : List ℕ) : Type 0 where
   pub answers : answer ≡ answerWords (f .answer)
-  pub parts : part ≡ word (f .present) ∷ f .start ∷ f .length ∷ []
+  pub parts : part ≡ flag (f .present) ∷ f .start ∷ f .length ∷ []
 
--- a digest is written only where the answer is accepted
+-- "A refusal .. touches no output byte." (docs/DECISIONS.md, B1)
 abbrev pub digestAfter : Answer → (digest before : List ℕ) → List ℕ
 digestAfter a digest before = if eqb (a .number) 0 then digest else before
 
@@ -65,7 +89,7 @@ pub record HashedTo (h : Hashed) (before after answer : List ℕ) : Type 0 where
   pub answers : answer ≡ answerWords (h .answer)
   pub output : after ≡ digestAfter (h .answer) (h .digest) before
 
--- the running digest in its three arrays; uint64_t counts[2]: waiting count, total
+-- the running digest in its three arrays; uint64_t counts[2]: waiting count, total (docs/DECISIONS.md, B3)
 pub record Holds (s : Running) (words waiting counts : List ℕ) : Type 0 where
   pub of-words : words ≡ s .words
   pub of-waiting : waiting ≡ s .waiting
@@ -84,3 +108,13 @@ pub record FedTo (f : Fed) (words waiting counts answer : List ℕ) : Type 0 whe
 pub record FinishedTo (f : Finished) (before after answer : List ℕ) : Type 0 where
   pub answers : answer ≡ answerWords (f .answer)
   pub output : after ≡ digestAfter (f .answer) (f .digest) before
+
+-- eddyplume_digest_feed
+abbrev pub DigestFed : (words waiting counts bytes words′ waiting′ counts′ answer : List ℕ) → Type 0
+DigestFed words waiting counts bytes words′ waiting′ counts′ answer =
+    FedTo (feeding sha256 (runningOf words waiting counts) bytes) words′ waiting′ counts′ answer
+
+-- eddyplume_digest_finish
+abbrev pub DigestFinished : (words waiting counts before after answer : List ℕ) → Type 0
+DigestFinished words waiting counts before after answer =
+    FinishedTo (finishing sha256 (runningOf words waiting counts)) before after answer

@@ -1,14 +1,12 @@
 // The digest of a whole message, and the running digest.
-use crate::terms;
+use crate::c_values;
 use digest::message;
 use digest::running::Running;
 ghost use mathlib.Core.Path.{_≡_};
-ghost use mathlib.Core.List.{[], _∷_};
-ghost use lib.ListN.{getD};
 ghost use Rattle.digest.specs.Message.{hashing};
-ghost use Rattle.digest.specs.Running.{start, feeding, finishing};
+ghost use Rattle.digest.specs.Running.{start};
 ghost use Rattle.digest.specs.Sha256.{sha256};
-ghost use Rattle.eddyplume.specs.Boundary.{HashedTo, Holds, FedTo, FinishedTo, runningOf};
+ghost use Rattle.eddyplume.specs.Boundary.{HashedTo, Holds, DigestFed, DigestFinished, runningOf};
 
 // The running digest that three arrays hold.
 fn running_of(words: [u32; 8], waiting: [u8; 64], counts: [u64; 2]) -> Running
@@ -30,7 +28,7 @@ pub extern "C" fn eddyplume_sha256(message: &[u8], digest: &mut [u8; 32], answer
     let hashed = message::sha256(message);
     let taken = hashed.answer;
     let bytes = hashed.digest;
-    *answer = terms::answer_words(taken);
+    *answer = c_values::answer_words(taken);
     if taken.number == 0 {
         *digest = bytes;
     }
@@ -62,7 +60,8 @@ pub extern "C" fn eddyplume_digest_feed(
     bytes: &[u8],
     answer: &mut [u64; 3],
 )
-    ensures { λ _. ⌜ FedTo (feeding sha256 (runningOf (now (words .entry)) (now (waiting .entry)) (now (counts .entry))) (now (bytes .entry))) (now (words .exit)) (now (waiting .exit)) (now (counts .exit)) (now (answer .exit)) ⌝ }
+    ensures { λ _. ⌜ DigestFed (now (words .entry)) (now (waiting .entry)) (now (counts .entry)) (now (bytes .entry))
+        (now (words .exit)) (now (waiting .exit)) (now (counts .exit)) (now (answer .exit)) ⌝ }
 {
     let s = running_of(*words, *waiting, *counts);
     let fed = s.feed(bytes);
@@ -73,7 +72,7 @@ pub extern "C" fn eddyplume_digest_feed(
     *words = after;
     *waiting = room;
     *counts = [next.count as u64, next.total];
-    *answer = terms::answer_words(a);
+    *answer = c_values::answer_words(a);
 }
 
 // The digest of all bytes so far; a refusal writes no digest byte.
@@ -85,13 +84,14 @@ pub extern "C" fn eddyplume_digest_finish(
     digest: &mut [u8; 32],
     answer: &mut [u64; 3],
 )
-    ensures { λ _. ⌜ FinishedTo (finishing sha256 (runningOf (now (words .entry)) (now (waiting .entry)) (now (counts .entry)))) (now (digest .entry)) (now (digest .exit)) (now (answer .exit)) ⌝ }
+    ensures { λ _. ⌜ DigestFinished (now (words .entry)) (now (waiting .entry)) (now (counts .entry))
+        (now (digest .entry)) (now (digest .exit)) (now (answer .exit)) ⌝ }
 {
     let held = running_of(*words, *waiting, *counts);
     let finished = held.finish();
     let a = finished.answer;
     let last = finished.digest;
-    *answer = terms::answer_words(a);
+    *answer = c_values::answer_words(a);
     if a.number == 0 {
         *digest = last;
     }

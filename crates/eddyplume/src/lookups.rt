@@ -1,5 +1,5 @@
 // The lookup.
-use crate::terms;
+use crate::c_values;
 use dataset::lookup;
 ghost use Rattle.dataset.specs.Lookup.{found};
 ghost use Rattle.eddyplume.specs.Boundary.{LookedUp};
@@ -11,7 +11,7 @@ pub extern "C" fn eddyplume_lookup(d: &[u8], tag: u32, answer: &mut [u64; 3], pa
 {
     let f = lookup::find(d, tag);
     let a = f.answer;
-    *answer = terms::answer_words(a);
-    let present = terms::word_of(f.present);
+    *answer = c_values::answer_words(a);
+    let present = c_values::flag_of(f.present);
     *part = [present, f.start as u64, f.length as u64];
 }

@@ -1,10 +1,8 @@
 // List mode and signature mode.
-use crate::terms;
+use crate::c_values;
 use mac::list_mode;
 use mac::signature_mode;
-ghost use Rattle.mac.specs.ListMode as listMode;
-ghost use Rattle.mac.specs.SignatureMode as signatureMode;
-ghost use Rattle.eddyplume.specs.Boundary.{whichOf, StreamedTo, CheckedTo};
+ghost use Rattle.eddyplume.specs.Boundary.{ListStreamed, ListChecked, SignatureStreamed, SignatureChecked};
 
 // The stream of a list, into the output.
 #[no_mangle]
@@ -14,10 +12,10 @@ pub extern "C" fn eddyplume_list_stream(
     out: &mut [u8],
     answer: &mut [u64; 3],
 )
-    ensures { λ _. ⌜ StreamedTo (listMode.result (listMode.streamCall (now (list .entry)) (now (d .entry)) (now (out .entry)))) (now (out .entry)) (now (out .exit)) (now (answer .exit)) ⌝ }
+    ensures { λ _. ⌜ ListStreamed (now (list .entry)) (now (d .entry)) (now (out .entry)) (now (out .exit)) (now (answer .exit)) ⌝ }
 {
     let a = list_mode::list_stream(list, d, out);
-    *answer = terms::answer_words(a);
+    *answer = c_values::answer_words(a);
 }
 
 // The check of the digest of a list's stream, which is left in the work buffer.
@@ -30,13 +28,14 @@ pub extern "C" fn eddyplume_list_check(
     answer: &mut [u64; 3],
     verdict: &mut [u8; 1],
 )
-    ensures { λ _. ⌜ CheckedTo (listMode.result (listMode.checkCall (now (list .entry)) (now (d .entry)) (now (expected .entry)) (now (work .entry)))) (now (work .entry)) (now (work .exit)) (now (answer .exit)) (now (verdict .exit)) ⌝ }
+    ensures { λ _. ⌜ ListChecked (now (list .entry)) (now (d .entry)) (now (expected .entry))
+        (now (work .entry)) (now (work .exit)) (now (answer .exit)) (now (verdict .exit)) ⌝ }
 {
     let checked = list_mode::list_check(list, d, expected, work);
     let a = checked.answer;
     let v = checked.verdict;
-    *answer = terms::answer_words(a);
-    *verdict = [terms::verdict_code(v)];
+    *answer = c_values::answer_words(a);
+    *verdict = [c_values::verdict_code(v)];
 }
 
 // The stream of a signature, into the output.
@@ -49,11 +48,12 @@ pub extern "C" fn eddyplume_signature_stream(
     out: &mut [u8],
     answer: &mut [u64; 3],
 )
-    ensures { λ _. ⌜ StreamedTo (signatureMode.result (signatureMode.streamCall (now (uid .entry)) (whichOf numbered number) (now (d .entry)) (now (out .entry)))) (now (out .entry)) (now (out .exit)) (now (answer .exit)) ⌝ }
+    ensures { λ _. ⌜ SignatureStreamed (now (uid .entry)) numbered number (now (d .entry))
+        (now (out .entry)) (now (out .exit)) (now (answer .exit)) ⌝ }
 {
-    let which = terms::which_of(numbered, number);
+    let which = c_values::which_of(numbered, number);
     let a = signature_mode::signature_stream(uid, which, d, out);
-    *answer = terms::answer_words(a);
+    *answer = c_values::answer_words(a);
 }
 
 // The check of the digest of a signature's stream, which is left in the work buffer.
@@ -68,12 +68,13 @@ pub extern "C" fn eddyplume_signature_check(
     answer: &mut [u64; 3],
     verdict: &mut [u8; 1],
 )
-    ensures { λ _. ⌜ CheckedTo (signatureMode.result (signatureMode.checkCall (now (uid .entry)) (whichOf numbered number) (now (d .entry)) (now (expected .entry)) (now (work .entry)))) (now (work .entry)) (now (work .exit)) (now (answer .exit)) (now (verdict .exit)) ⌝ }
+    ensures { λ _. ⌜ SignatureChecked (now (uid .entry)) numbered number (now (d .entry)) (now (expected .entry))
+        (now (work .entry)) (now (work .exit)) (now (answer .exit)) (now (verdict .exit)) ⌝ }
 {
-    let which = terms::which_of(numbered, number);
+    let which = c_values::which_of(numbered, number);
     let checked = signature_mode::signature_check(uid, which, d, expected, work);
     let a = checked.answer;
     let v = checked.verdict;
-    *answer = terms::answer_words(a);
-    *verdict = [terms::verdict_code(v)];
+    *answer = c_values::answer_words(a);
+    *verdict = [c_values::verdict_code(v)];
 }

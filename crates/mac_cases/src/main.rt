@@ -10,18 +10,18 @@
 //   NAME frame INPUT                                     prints NAME, a newline, and what the stream program prints for the input
 mod bytes;
 mod calls;
+mod fields;
+mod frame_kind;
 mod kinds;
-mod list_kinds;
+mod mode_kinds;
 mod print;
 mod reading_kinds;
-mod signature_kinds;
-mod words;
 
 // Runs each line of the text, with rooms for a case's data set and for its output.
 fn run(text: &[u8], data: &mut [u8], out: &mut [u8]) {
     let mut at = 0;
     while at < text.len() {
-        let end = words::until(text, b'\n', at);
+        let end = fields::until(text, b'\n', at);
         kinds::run_case(&text[at..end], data, out);
         if end == text.len() {
             return;
@@ -38,7 +38,7 @@ fn run_input(input: &mut [u8; 2228224], data: &mut [u8; 1048640], out: &mut [u8;
         print::text(b"input over 2228223 bytes\n");
         return;
     }
-    run(words::first(input, n), data, out);
+    run(fields::first(input, n), data, out);
 }
 
 fn main() {

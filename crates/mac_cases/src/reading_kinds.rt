@@ -1,8 +1,9 @@
 // The kinds of cases of the reading and the lookup.
 use crate::bytes;
 use crate::bytes::Bytes;
+use crate::fields;
+use crate::fields::Tag;
 use crate::print;
-use crate::words;
 use dataset::lookup;
 use dataset::reading;
 
@@ -13,38 +14,12 @@ fn print_reading(d: &[u8]) {
     print::text(b"\n");
 }
 
-// read DATA
-pub(crate) fn read_case(field: &[u8], data: &mut [u8]) {
-    match bytes::put(field, data) {
-        Bytes::Good(n) => print_reading(words::first(data, n)),
+// NAME read DATA
+pub(crate) fn read_case(line: &[u8], data: &mut [u8]) {
+    match bytes::put(fields::field(line, 2), data) {
+        Bytes::Good(n) => print_reading(fields::first(data, n)),
         Bytes::Bad => print::not_understood(),
     }
-}
-
-// A tag as eight hex digits, group first.
-enum Tag {
-    Good(u32),
-    Bad,
-}
-
-fn tag_of(field: &[u8]) -> Tag {
-    if field.len() != 8 {
-        return Tag::Bad;
-    }
-    let mut tag: u32 = 0;
-    let mut i = 0;
-    while i < 8 {
-        let v = bytes::digit_of(field[i]);
-        if 15 < v {
-            return Tag::Bad;
-        }
-        if 0xFFFFFFF < tag {
-            return Tag::Bad;
-        }
-        tag = tag * 16 + v as u32;
-        i += 1;
-    }
-    Tag::Good(tag)
 }
 
 fn yes_or_no(b: bool) {
@@ -68,14 +43,14 @@ fn print_lookup(d: &[u8], tag: u32) {
     print::text(b"\n");
 }
 
-// lookup TAG DATA
-pub(crate) fn lookup_case(tag_field: &[u8], field: &[u8], data: &mut [u8]) {
-    let Tag::Good(tag) = tag_of(tag_field) else {
+// NAME lookup TAG DATA
+pub(crate) fn lookup_case(line: &[u8], data: &mut [u8]) {
+    let Tag::Good(tag) = fields::tag_of(fields::field(line, 2)) else {
         print::not_understood();
         return;
     };
-    match bytes::put(field, data) {
-        Bytes::Good(n) => print_lookup(words::first(data, n), tag),
+    match bytes::put(fields::field(line, 3), data) {
+        Bytes::Good(n) => print_lookup(fields::first(data, n), tag),
         Bytes::Bad => print::not_understood(),
     }
 }

@@ -19,8 +19,8 @@ use Rattle.dataset.specs.Bytes.{between}
 use Rattle.mac.specs.Result.{isAccepted, outputAfter}
 use Rattle.mac.specs.ListMode.{Call, answer, stream, streamCall, result}
 use Rattle.mac_frame.specs.Text.{line, hexLines}
-use Rattle.mac_frame.specs.Frame.{inputLimit, outputRoom, big32, frameAt, frameCall, report, printedBy, printed, Printed}
-use Rattle.mac_frame.specs.Wrote.{Wrote, Holds}
+use Rattle.mac_frame.specs.Frame.{inputLimit, outputRoom, big32, frameOf, frameCall, report, printedBy, printed, Printed}
+use Rattle.mac_frame.specs.Inner.Wrote.{Wrote, Holds}
 use Rattle.mac_theorems.proofs.Acceptance.{accepts, answer-accepted}
 use Rattle.mac_theorems.proofs.Outputs.{output-stream}
 use Rattle.mac_frame.proofs.TextSteps.{wrote-then}
@@ -28,29 +28,29 @@ use Rattle.mac_frame.specs.declared.frame.Frame.{Frame}
 use Rattle.mac_frame.specs.declared.frame.Frame.the-variants as frame
 
 module _ (s : List ℕ) where
-  pub too-long : inputLimit < length s → frame.Bad ≡ frameAt s
-  unfolding frameAt if_then_else_
+  pub too-long : inputLimit < length s → frame.Bad ≡ frameOf s
+  unfolding frameOf if_then_else_
   too-long h = simp (lt-ltb inputLimit (length s) h)
 
   module _ (h₁ : length s ≤ inputLimit) where
-    pub too-short : length s < 5 → frame.Bad ≡ frameAt s
-    unfolding frameAt if_then_else_
+    pub too-short : length s < 5 → frame.Bad ≡ frameOf s
+    unfolding frameOf if_then_else_
     too-short h = simp (le-ltb inputLimit (length s) h₁, lt-ltb (length s) 5 h)
 
     module _ (h₂ : 5 ≤ length s) where
-      pub other-version : (getD s 0 0 ≡ 1 → ⊥) → frame.Bad ≡ frameAt s
-      unfolding frameAt if_then_else_
+      pub other-version : (getD s 0 0 ≡ 1 → ⊥) → frame.Bad ≡ frameOf s
+      unfolding frameOf if_then_else_
       other-version h = simp (le-ltb inputLimit (length s) h₁, le-ltb (length s) 5 h₂, ne-eqb (getD s 0 0) 1 h)
 
       module _ (h₃ : getD s 0 0 ≡ 1) (list : ℕ) (e : list ≡ big32 s 1) where
-        pub list-past : length s < 9 + list → frame.Bad ≡ frameAt s
-        unfolding frameAt if_then_else_
+        pub list-past : length s < 9 + list → frame.Bad ≡ frameOf s
+        unfolding frameOf if_then_else_
         list-past h =
             simp (le-ltb inputLimit (length s) h₁, le-ltb (length s) 5 h₂, eq-eqb (getD s 0 0) 1 h₃, ← e, lt-ltb (length s) (9 + list) h)
 
         module _ (h₄ : 9 + list ≤ length s) (set : ℕ) (e′ : set ≡ big32 s (5 + list)) where
-          pub not-filled : (length s ≡ 9 + list + set → ⊥) → frame.Bad ≡ frameAt s
-          unfolding frameAt if_then_else_
+          pub not-filled : (length s ≡ 9 + list + set → ⊥) → frame.Bad ≡ frameOf s
+          unfolding frameOf if_then_else_
           not-filled h =
               simp (
                 le-ltb inputLimit (length s) h₁,
@@ -62,8 +62,8 @@ module _ (s : List ℕ) where
                 ne-eqb (length s) (9 + list + set) h,
               )
 
-          pub filled : length s ≡ 9 + list + set → frame.ListEnds (5 + list) ≡ frameAt s
-          unfolding frameAt if_then_else_
+          pub filled : length s ≡ 9 + list + set → frame.ListEnds (5 + list) ≡ frameOf s
+          unfolding frameOf if_then_else_
           filled h =
               simp (
                 le-ltb inputLimit (length s) h₁,
@@ -75,53 +75,67 @@ module _ (s : List ℕ) where
                 eq-eqb (length s) (9 + list + set) h,
               )
 
--- ---- what a good frame holds
-module _ (s : List ℕ) (end : ℕ) (good : frame.ListEnds end ≡ frameAt s) where
-  not-bad : frame.Bad ≡ frameAt s → ⊥
+-- ---- what is known of a good frame
+pub record Good (s : List ℕ) (end : ℕ) : Type 0 where
+  pub small : length s ≤ inputLimit
+  pub version : getD s 0 0 ≡ 1
+  pub ends : end ≡ 5 + big32 s 1
+  pub fills : length s ≡ 9 + big32 s 1 + big32 s (5 + big32 s 1)
+
+module _ (s : List ℕ) (end : ℕ) (good : frame.ListEnds end ≡ frameOf s) where
+  not-bad : frame.Bad ≡ frameOf s → ⊥
   not-bad bad = let z : _≡_ {A = ℕ} 0 1 = cc in omega arith
 
-  fills-by : length s ≤ inputLimit → 5 ≤ length s → getD s 0 0 ≡ 1 → 9 + big32 s 1 ≤ length s → (b : Bool) → eqb (length s) (9 + big32 s 1 + big32 s (5 + big32 s 1)) ≡ b → Holds s end
+  fills-by : length s ≤ inputLimit → 5 ≤ length s → getD s 0 0 ≡ 1 → 9 + big32 s 1 ≤ length s → (b : Bool)
+      → eqb (length s) (9 + big32 s 1 + big32 s (5 + big32 s 1)) ≡ b → Good s end
   fills-by h₁ h₂ h₃ h₄ true e =
       let n : length s ≡ 9 + big32 s 1 + big32 s (5 + big32 s 1) = eqb-true (length s) (9 + big32 s 1 + big32 s (5 + big32 s 1)) e in
       let p : end ≡ 5 + big32 s 1 = let q = good ∙ sym (filled s h₁ h₂ h₃ (big32 s 1) refl h₄ (big32 s (5 + big32 s 1)) refl n) in cc in
-      record { least = omega arith; inside = omega arith; small = h₁ }
+      record { small = h₁; version = h₃; ends = p; fills = n }
   fills-by h₁ h₂ h₃ h₄ false e =
-      absurd (not-bad (not-filled s h₁ h₂ h₃ (big32 s 1) refl h₄ (big32 s (5 + big32 s 1)) refl (eqb-false (length s) (9 + big32 s 1 + big32 s (5 + big32 s 1)) e)))
+      let n = eqb-false (length s) (9 + big32 s 1 + big32 s (5 + big32 s 1)) e in
+      absurd (not-bad (not-filled s h₁ h₂ h₃ (big32 s 1) refl h₄ (big32 s (5 + big32 s 1)) refl n))
 
-  list-by : length s ≤ inputLimit → 5 ≤ length s → getD s 0 0 ≡ 1 → Dec (length s < 9 + big32 s 1) → Holds s end
+  list-by : length s ≤ inputLimit → 5 ≤ length s → getD s 0 0 ≡ 1 → Dec (length s < 9 + big32 s 1) → Good s end
   list-by h₁ h₂ h₃ (yes p) = absurd (not-bad (list-past s h₁ h₂ h₃ (big32 s 1) refl p))
   list-by h₁ h₂ h₃ (no p) = fills-by h₁ h₂ h₃ (omega arith) (eqb (length s) (9 + big32 s 1 + big32 s (5 + big32 s 1))) refl
 
-  version-by : length s ≤ inputLimit → 5 ≤ length s → (b : Bool) → eqb (getD s 0 0) 1 ≡ b → Holds s end
+  version-by : length s ≤ inputLimit → 5 ≤ length s → (b : Bool) → eqb (getD s 0 0) 1 ≡ b → Good s end
   version-by h₁ h₂ true e = list-by h₁ h₂ (eqb-true (getD s 0 0) 1 e) (decLt (length s) (9 + big32 s 1))
   version-by h₁ h₂ false e = absurd (not-bad (other-version s h₁ h₂ (eqb-false (getD s 0 0) 1 e)))
 
-  short-by : length s ≤ inputLimit → Dec (length s < 5) → Holds s end
+  short-by : length s ≤ inputLimit → Dec (length s < 5) → Good s end
   short-by h₁ (yes p) = absurd (not-bad (too-short s h₁ p))
   short-by h₁ (no p) = version-by h₁ (omega arith) (eqb (getD s 0 0) 1) refl
 
-  long-by : Dec (inputLimit < length s) → Holds s end
+  long-by : Dec (inputLimit < length s) → Good s end
   long-by (yes p) = absurd (not-bad (too-long s p))
   long-by (no p) = short-by (omega arith) (decLt (length s) 5)
 
-  holds : Holds s end
-  holds = long-by (decLt inputLimit (length s))
+  pub good-frame : Good s end
+  good-frame = long-by (decLt inputLimit (length s))
 
 -- ---- what is printed
 module _ (c : Call) (out text : List ℕ) where
-  pub report-refused : (a : Answer) (r : ℕ) (after : List ℕ) → a ≡ answer c → (a .number ≡ 0 → ⊥) → Wrote text 0 (line a) r after → Wrote text 0 (report c) r after
+  pub report-refused : (a : Answer) (r : ℕ) (after : List ℕ) → a ≡ answer c → (a .number ≡ 0 → ⊥) → Wrote text 0 (line a) r after
+      → Wrote text 0 (report c) r after
   unfolding report if_then_else_
   report-refused a r after e n w =
       let f : isAccepted (result c) ≡ false = ne-eqb (answer c .number) 0 (λ z. n (ap (λ (x : Answer). x .number) e ∙ z)) in
-      let p : line a ≡ report c = ap line e ∙ sym (append-nil (line (answer c))) ∙ ap (λ (b : Bool). line (answer c) ++ (if b then hexLines (stream c) else [])) (sym f) in
+      let p : line a ≡ report c =
+      ap line e ∙ sym (append-nil (line (answer c)))
+      ∙ ap (λ (b : Bool). line (answer c) ++ (if b then hexLines (stream c) else [])) (sym f) in
       subst (λ (l : List ℕ). Wrote text 0 l r after) p w
 
-  pub report-accepted : (a : Answer) (next r : ℕ) (mid after left : List ℕ) → a ≡ answer c → a .number ≡ 0 → left ≡ outputAfter (result c) out → Wrote text 0 (line a) next mid
+  pub report-accepted : (a : Answer) (next r : ℕ) (mid after left : List ℕ) → a ≡ answer c → a .number ≡ 0
+      → left ≡ outputAfter (result c) out → Wrote text 0 (line a) next mid
       → Wrote mid next (hexLines (take (a .length) left)) r after → Wrote text 0 (report c) r after
   unfolding report if_then_else_
   report-accepted a next r mid after left e n o w v =
       let t : isAccepted (result c) ≡ true = eq-eqb (answer c .number) 0 (ap (λ (x : Answer). x .number) (sym e) ∙ n) in
-      let b : take (a .length) left ≡ stream c = ap₂ (λ (x : Answer) (l : List ℕ). take (x .length) l) e o ∙ output-stream (result c) out t (ap (λ (x : Answer). x .length) (answer-accepted c t)) in
+      let b : take (a .length) left ≡ stream c =
+      ap₂ (λ (x : Answer) (l : List ℕ). take (x .length) l) e o
+      ∙ output-stream (result c) out t (ap (λ (x : Answer). x .length) (answer-accepted c t)) in
       let p : line a ++ hexLines (take (a .length) left) ≡ report c =
       ap₂ _++_ (ap line e) (ap hexLines b) ∙ ap (λ (x : Bool). line (answer c) ++ (if x then hexLines (stream c) else [])) (sym t) in
       subst (λ (l : List ℕ). Wrote text 0 l r after) p (wrote-then text mid after 0 next r (line a) (hexLines (take (a .length) left)) w v)
@@ -136,20 +150,27 @@ within-room c a e n =
     omega arith
 
 -- the call of a frame is that of the code, with its output of 65,536 bytes
-pub frame-call : (s out : List ℕ) (end : ℕ) → length out ≡ outputRoom → streamCall (between s 5 end) (between s (end + 4) (length s)) out ≡ frameCall s end
+pub frame-call : (s out : List ℕ) (end : ℕ) → length out ≡ outputRoom
+    → streamCall (between s 5 end) (between s (end + 4) (length s)) out ≡ frameCall s end
 frame-call s out end e = λ i. record { list = between s 5 end; set = between s (end + 4) (length s); room = e i; expected = Opt.none }
 
-printed-as : (s text after : List ℕ) (r : ℕ) (f g : Frame) → f ≡ frameAt s → f ≡ g → Wrote text 0 (printedBy g s) r after → Printed s text r after
+printed-as : (s text after : List ℕ) (r : ℕ) (f g : Frame) → f ≡ frameOf s → f ≡ g → Wrote text 0 (printedBy g s) r after
+    → Printed s text r after
 unfolding printed
 printed-as s text after r f g e q w =
     let p : printedBy g s ≡ printed s = ap (λ (x : Frame). printedBy x s) (sym q ∙ e) in
     record { size = w .place ∙ zero-add (length (printedBy g s)) ∙ ap length p; bytes = w .wrote ∙ ap (sets text 0) p }
 
-pub printed-bad : (s text after : List ℕ) (r : ℕ) (f : Frame) (a : Answer) → f ≡ frameAt s → f ≡ frame.Bad → a ≡ refused 24 0 → Wrote text 0 (line a) r after → Printed s text r after
-printed-bad s text after r f a e q z w = printed-as s text after r f frame.Bad e q (subst (λ (x : Answer). Wrote text 0 (line x) r after) z w)
+pub printed-bad : (s text after : List ℕ) (r : ℕ) (f : Frame) (a : Answer) → f ≡ frameOf s → f ≡ frame.Bad → a ≡ refused 24 0
+    → Wrote text 0 (line a) r after → Printed s text r after
+printed-bad s text after r f a e q z w =
+    printed-as s text after r f frame.Bad e q (subst (λ (x : Answer). Wrote text 0 (line x) r after) z w)
 
-pub printed-good : (s text after : List ℕ) (r end : ℕ) (f : Frame) → f ≡ frameAt s → f ≡ frame.ListEnds end → Wrote text 0 (report (frameCall s end)) r after → Printed s text r after
+pub printed-good : (s text after : List ℕ) (r end : ℕ) (f : Frame) → f ≡ frameOf s → f ≡ frame.ListEnds end
+    → Wrote text 0 (report (frameCall s end)) r after → Printed s text r after
 printed-good s text after r end f e q w = printed-as s text after r f (frame.ListEnds end) e q w
 
-pub holds-matched : (s : List ℕ) (end : ℕ) (f : Frame) → f ≡ frameAt s → f ≡ frame.ListEnds end → Holds s end
-holds-matched s end f e q = holds s end (sym q ∙ e)
+pub holds-matched : (s : List ℕ) (end : ℕ) (f : Frame) → f ≡ frameOf s → f ≡ frame.ListEnds end → Holds s end
+holds-matched s end f e q =
+    let g = good-frame s end (sym q ∙ e) in
+    record { least = omega arith; inside = omega arith; small = g .small }

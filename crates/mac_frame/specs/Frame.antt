@@ -31,10 +31,10 @@ outputRoom = 65536
 unfoldable pub big32 : List ℕ → (i : ℕ) → ℕ
 big32 s i = getD s i 0 * 2 ^ 24 + getD s (i + 1) 0 * 2 ^ 16 + getD s (i + 2) 0 * 2 ^ 8 + getD s (i + 3) 0
 
--- "version byte 1; four-byte big-endian length; list; four-byte big-endian length; data set; nothing after": where the list ends, or a bad frame. (5 bytes: version and first
--- length; 9: with the second length.)
-unfoldable pub frameAt : List ℕ → Frame
-frameAt s =
+-- "version byte 1; four-byte big-endian length; list; four-byte big-endian length; data set; nothing after": where the list ends, or a bad
+-- frame. (5 bytes: version and first length; 9: with the second length.)
+unfoldable pub frameOf : List ℕ → Frame
+frameOf s =
     if ltb inputLimit (length s) then frame.Bad else
     if ltb (length s) 5 then frame.Bad else
     if not (eqb (getD s 0 0) 1) then frame.Bad else
@@ -57,10 +57,10 @@ printedBy (frame.ListEnds end) s = report (frameCall s end)
 
 -- what the program prints for the input s
 unfoldable pub printed : List ℕ → List ℕ
-printed s = printedBy (frameAt s) s
+printed s = printedBy (frameOf s) s
 
--- What the frame function gives back, r, and leaves in the text buffer: the number of bytes to print, and the bytes, as far as they fit
--- (`sets` writes nothing past the end).
+-- What `print_frame` gives back, r: the number of bytes to print; and leaves in the text buffer: these bytes, as far as they fit
+-- (docs/DECISIONS.md, L9).
 pub record Printed (s text : List ℕ) (r : ℕ) (after : List ℕ) : Type 0 where
   pub size : r ≡ length (printed s)
   pub bytes : after ≡ sets text 0 (printed s)

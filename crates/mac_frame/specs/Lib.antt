@@ -1,4 +1,5 @@
 pub mod Text
 pub mod Frame
--- for inner contracts only; a reader need not believe it
-pub mod Wrote
+pub mod Theorems
+-- for inner contracts; a reader need not believe it
+pub mod Inner

@@ -22,17 +22,17 @@ unfoldable pub decimalBy : (k n : ℕ) → List ℕ
 decimalBy zero n = []
 decimalBy (suc k) n = if ltb n 10 then digit n ∷ [] else decimalBy k (n / 10) ++ (digit (n % 10) ∷ [])
 
--- "in decimal": n + 1 steps are more than there are digits
+-- "in decimal": n + 1 steps are enough
 unfoldable pub decimal : ℕ → List ℕ
 decimal n = decimalBy (suc n) n
 
--- a number and what stands behind it
-unfoldable pub word : (n end : ℕ) → List ℕ
-word n end = decimal n ++ (end ∷ [])
+-- a number in decimal and what stands behind it
+unfoldable pub decimalThen : (n end : ℕ) → List ℕ
+decimalThen n end = decimal n ++ (end ∷ [])
 
 -- "answer, position and length in decimal with single spaces"
 unfoldable pub line : Answer → List ℕ
-line a = word (a .number) space ++ (word (a .position) space ++ word (a .length) newline)
+line a = decimalThen (a .number) space ++ (decimalThen (a .position) space ++ decimalThen (a .length) newline)
 
 -- a byte in lower-case hex
 abbrev pub hex : ℕ → List ℕ

@@ -6,7 +6,7 @@ ghost use mathlib.Core.Path.{_≡_};
 ghost use Prim.Native.Nat.{_+_, _*_, _^_, _≤_};
 ghost use lib.ListN.{length};
 ghost use Rattle.mac_frame.specs.Frame as Spec;
-ghost use Rattle.mac_frame.specs.Wrote.{Wrote, Holds};
+ghost use Rattle.mac_frame.specs.Inner.Wrote.{Wrote, Holds};
 
 const INPUT_LIMIT: usize = 65536;
 
@@ -32,8 +32,8 @@ fn big32(s: &[u8], i: usize) -> u32
 }
 
 // Where the list ends in the frame s.
-pub(crate) fn frame_at(s: &[u8]) -> Frame
-    ensures { λ r. ⌜ r ≡ Spec.frameAt (now (s .entry)) ⌝ }
+pub(crate) fn frame_of(s: &[u8]) -> Frame
+    ensures { λ r. ⌜ r ≡ Spec.frameOf (now (s .entry)) ⌝ }
 {
     let n = s.len();
     if INPUT_LIMIT < n {
@@ -81,7 +81,7 @@ fn report(input: &[u8], end: usize, text: &mut [u8]) -> usize
 pub fn print_frame(input: &[u8], text: &mut [u8]) -> usize
     ensures { λ r. ⌜ Spec.Printed (now (input .entry)) (now (text .entry)) r (now (text .exit)) ⌝ }
 {
-    match frame_at(input) {
+    match frame_of(input) {
         Frame::Bad => text::put_line(text, 0, Answer::refused(24, 0)),
         Frame::ListEnds(end) => report(input, end, text),
     }

@@ -8,7 +8,7 @@ ghost use lib.ListN.{length};
 ghost use lib.Dec.{eqb};
 ghost use lib.Seq.{sets};
 ghost use Rattle.mac_frame.specs.Text as Spec;
-ghost use Rattle.mac_frame.specs.Wrote.{Wrote};
+ghost use Rattle.mac_frame.specs.Inner.Wrote.{Wrote};
 
 // A digit in decimal or in lower-case hex.
 fn digit(n: u8) -> u8
@@ -21,7 +21,6 @@ fn digit(n: u8) -> u8
     0x57 + n
 }
 
-// One byte of text.
 fn put_byte(text: &mut [u8], at: usize, b: u8)
     ensures { λ _. ⌜ now (text .exit) ≡ sets (now (text .entry)) at (b ∷ []) ⌝ }
 {
@@ -30,7 +29,6 @@ fn put_byte(text: &mut [u8], at: usize, b: u8)
     }
 }
 
-// A number in decimal.
 fn put_decimal(text: &mut [u8], at: usize, n: u64) -> usize
     requires { ⌜ at < 2 ^ 62 ⌝ }
     ensures { λ r. ⌜ Wrote (now (text .entry)) at (Spec.decimal n) r (now (text .exit)) ⌝ }
@@ -45,24 +43,22 @@ fn put_decimal(text: &mut [u8], at: usize, n: u64) -> usize
     next + 1
 }
 
-// A number in decimal and the byte behind it.
-fn put_word(text: &mut [u8], at: usize, n: u64, end: u8) -> usize
+fn put_decimal_then(text: &mut [u8], at: usize, n: u64, end: u8) -> usize
     requires { ⌜ at < 2 ^ 61 ⌝ }
-    ensures { λ r. ⌜ Wrote (now (text .entry)) at (Spec.word n end) r (now (text .exit)) ⌝ }
+    ensures { λ r. ⌜ Wrote (now (text .entry)) at (Spec.decimalThen n end) r (now (text .exit)) ⌝ }
 {
     let next = put_decimal(text, at, n);
     put_byte(text, next, end);
     next + 1
 }
 
-// The line of an answer.
 pub(crate) fn put_line(text: &mut [u8], at: usize, answer: Answer) -> usize
     requires { ⌜ at < 2 ^ 60 ⌝ }
     ensures { λ r. ⌜ Wrote (now (text .entry)) at (Spec.line answer) r (now (text .exit)) ⌝ }
 {
-    let first = put_word(text, at, answer.number as u64, 0x20);
-    let second = put_word(text, first, answer.position as u64, 0x20);
-    put_word(text, second, answer.length as u64, 0x0A)
+    let first = put_decimal_then(text, at, answer.number as u64, 0x20);
+    let second = put_decimal_then(text, first, answer.position as u64, 0x20);
+    put_decimal_then(text, second, answer.length as u64, 0x0A)
 }
 
 // A byte in hex, and the line's end where it ends the line.
@@ -92,7 +88,6 @@ fn ends_line(i: usize, n: usize) -> bool
     i + 1 == n
 }
 
-// Bytes in hex, 32 a line.
 pub(crate) fn put_lines(text: &mut [u8], from: usize, bytes: &[u8]) -> usize
     requires { ⌜ (from < 2 ^ 60) × (length (now bytes) ≤ 2 ^ 32) ⌝ }
     ensures { λ r. ⌜ Wrote (now (text .entry)) from (Spec.hexLines (now (bytes .entry))) r (now (text .exit)) ⌝ }

@@ -10,12 +10,12 @@ find-requires c κs = search needs
 answer-words-requires : tie.Need-answer-words-requires
 answer-words-requires c κs = search needs
 
-word-of-requires : tie.Need-word-of-requires
-word-of-requires c κs = search needs
+flag-of-requires : tie.Need-flag-of-requires
+flag-of-requires c κs = search needs
 
 returns : tie.Need-returns
 returns c = search steps.looked-up
 
 pub eddyplume-lookup-spec : {M : Type 1} → statement M
 eddyplume-lookup-spec =
-    tie.close (tie.spec find-requires answer-words-requires word-of-requires returns)
+    tie.close (tie.spec find-requires answer-words-requires flag-of-requires returns)

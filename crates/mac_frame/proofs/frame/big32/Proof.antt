@@ -1,5 +1,4 @@
 use Rattle.mac_frame.specs.Frame.{big32}
-use Prim.Native.Nat.{ℕ, _+_, _-_, _*_, _<_, _≤_}
 use borrow.Author.Needs.{needs}
 use Rattle.mac_frame.proofs.frame.big32.Statement.{statement}
 use Rattle.mac_frame.proofs.frame.big32.Tie as tie

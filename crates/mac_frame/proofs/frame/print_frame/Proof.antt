@@ -1,11 +1,10 @@
 use Rattle.mac_frame.proofs.FrameSteps as steps
-use Prim.Native.Nat.{ℕ, _+_, _-_, _*_, _<_, _≤_}
 use borrow.Author.Needs.{needs}
 use Rattle.mac_frame.proofs.frame.print_frame.Statement.{statement}
 use Rattle.mac_frame.proofs.frame.print_frame.Tie as tie
 
-frame-at-requires : tie.Need-frame-at-requires
-frame-at-requires c κs = search needs
+frame-of-requires : tie.Need-frame-of-requires
+frame-of-requires c κs = search needs
 
 enum-told : tie.Need-enum-told
 enum-told c = search needs
@@ -38,7 +37,7 @@ pub print-frame-spec : {M : Type 1} → statement M
 print-frame-spec =
     tie.close
     (tie.spec
-    frame-at-requires
+    frame-of-requires
     enum-told
     refused-requires
     put-line-requires

@@ -9,7 +9,6 @@ use Rattle.mac.specs.ListMode.{Call, answer, result}
 use Rattle.mac_frame.specs.Frame.{frameCall}
 use Rattle.mac_frame.proofs.TextSteps.{length-line}
 use Rattle.mac_frame.proofs.FrameSteps.{report-refused, report-accepted, within-room, frame-call}
-use Prim.Native.Nat.{_-_, _≤_}
 use borrow.Author.Needs.{needs}
 use Rattle.mac_frame.proofs.frame.report.Statement.{statement}
 use Rattle.mac_frame.proofs.frame.report.Tie as tie
@@ -60,31 +59,37 @@ answered : (c : tie.After-list-stream) → c .list-stream .result ≡ answer (fr
 unfolding between
 answered c =
     let args = c .before .before .before .before .before .before .before .args in
-    c .list-stream .ensures .answers ∙ ap answer (frame-call (args .input .now) (c .before .before .before .before .output .result) (args .end) (search needs))
+    c .list-stream .ensures .answers
+    ∙ ap answer (frame-call (args .input .now) (c .before .before .before .before .output .result) (args .end) (search needs))
 
-left : (c : tie.After-list-stream) → c .list-stream .last .1 .1 .0 ≡ outputAfter (result (framed c)) (c .before .before .before .before .output .result)
+left : (c : tie.After-list-stream)
+    → c .list-stream .last .1 .1 .0 ≡ outputAfter (result (framed c)) (c .before .before .before .before .output .result)
 unfolding between
 left c =
     let args = c .before .before .before .before .before .before .before .args in
     let out = c .before .before .before .before .output .result in
-    c .list-stream .ensures .output ∙ ap (λ (k : Call). outputAfter (result k) out) (frame-call (args .input .now) out (args .end) (search needs))
+    c .list-stream .ensures .output
+    ∙ ap (λ (k : Call). outputAfter (result k) out) (frame-call (args .input .now) out (args .end) (search needs))
 
 returns : tie.Need-returns
 returns c =
     let at-stream = c .before .before .before .before .before .before .before in
-    report-refused _ (at-stream .before .before .before .before .output .result) _ _ _ _ (answered at-stream) (c .if1 .taken) (c .before .before .before .before .put-line .ensures)
+    report-refused _ (at-stream .before .before .before .before .output .result) _ _ _ _ (answered at-stream) (c .if1 .taken)
+    (c .before .before .before .before .put-line .ensures)
 
 array-share-prefix-out : tie.Need-array-share-prefix-out
 array-share-prefix-out c =
     let at-stream = c .before .before .before .before .before .before .before .before in
-    let n : length (at-stream .list-stream .last .1 .1 .0) ≡ length (at-stream .before .before .before .before .output .result) = at-stream .list-stream .kept .1 .1 .0 in
+    let n : length (at-stream .list-stream .last .1 .1 .0) ≡ length (at-stream .before .before .before .before .output .result) =
+    at-stream .list-stream .kept .1 .1 .0 in
     let m : length (at-stream .before .before .before .before .output .result) ≡ 65536 = search needs in
     omega (arith, within-room _ _ (answered at-stream) (c .before .if1 .left))
 
 slice-aggregate-put-lines : tie.Need-slice-aggregate-put-lines
 slice-aggregate-put-lines c =
     let at-stream = c .before .before .before .before .before .before .before .before .before in
-    let n : length (at-stream .list-stream .last .1 .1 .0) ≡ length (at-stream .before .before .before .before .output .result) = at-stream .list-stream .kept .1 .1 .0 in
+    let n : length (at-stream .list-stream .last .1 .1 .0) ≡ length (at-stream .before .before .before .before .output .result) =
+    at-stream .list-stream .kept .1 .1 .0 in
     let m : length (at-stream .before .before .before .before .output .result) ≡ 65536 = search needs in
     sym (length-take-le _ _ (omega (arith, within-room _ _ (answered at-stream) (c .before .before .if1 .left))))
 
@@ -93,8 +98,11 @@ put-lines-requires c κs =
     let at-line = c .before .before .before .before .before .before in
     let a = at-line .before .before .before .list-stream .result in
     let p = at-line .put-line .ensures .place in
-    let n : length (take (a .length) (at-line .before .before .before .list-stream .last .1 .1 .0)) ≤ a .length = simp length-take (omega arith) in
-    (omega (arith, length-line a (search needs) (search needs) (search needs)), omega (arith, within-room _ _ (answered (at-line .before .before .before)) (c .before .before .if1 .left)))
+    let n : length (take (a .length) (at-line .before .before .before .list-stream .last .1 .1 .0)) ≤ a .length =
+    simp length-take (omega arith) in
+    let l = length-line a (search needs) (search needs) (search needs) in
+    let w = within-room _ _ (answered (at-line .before .before .before)) (c .before .before .if1 .left) in
+    (omega arith, omega arith)
 
 same-length-2 : tie.Need-same-length-2
 same-length-2 c = search needs
@@ -103,7 +111,9 @@ returns-2 : tie.Need-returns-2
 returns-2 c =
     let at-line = c .before .before .before .before .before .before .before .before .before in
     let at-stream = at-line .before .before .before in
-    report-accepted _ (at-stream .before .before .before .before .output .result) _ _ _ _ _ _ _ (answered at-stream) (c .before .before .before .before .before .if1 .left) (left at-stream) (at-line .put-line .ensures) (c .before .before .put-lines .ensures)
+    report-accepted _ (at-stream .before .before .before .before .output .result) _ _ _ _ _ _ _ (answered at-stream)
+    (c .before .before .before .before .before .if1 .left) (left at-stream) (at-line .put-line .ensures)
+    (c .before .before .put-lines .ensures)
 
 pub report-spec : {M : Type 1} → statement M
 report-spec =

@@ -82,7 +82,9 @@ put-decimal-returns : (t : ℕ) → put-decimal-lts.Need-returns (
   put-decimal-below t,
   put-decimal.Post,
 ) (put-decimal-at t) put-decimal.Post
-put-decimal-returns t c = decimal-wrote-last _ _ _ _ _ (c .before .before .before .before .if1 .taken) (c .before .before .before .before .before .digit .ensures) (c .before .before .put-byte .ensures)
+put-decimal-returns t c =
+    decimal-wrote-last _ _ _ _ _ (c .before .before .before .before .if1 .taken)
+    (c .before .before .before .before .before .digit .ensures) (c .before .before .put-byte .ensures)
 
 put-decimal-put-decimal-requires : (t : ℕ) → put-decimal-lts.Need-put-decimal-requires (
   digit-reads.Asked,
@@ -137,7 +139,8 @@ put-decimal-returns-2 : (t : ℕ) → put-decimal-lts.Need-returns-2 (
 ) (put-decimal-at t) put-decimal.Post
 put-decimal-returns-2 t c =
     let at-decimal = c .before .before .before .before .before .before in
-    decimal-wrote-more _ _ _ _ _ _ _ (at-decimal .before .before .if1 .left) (at-decimal .before .before .before .digit .ensures) (at-decimal .put-decimal .ensures) (c .before .before .put-byte2 .ensures)
+    decimal-wrote-more _ _ _ _ _ _ _ (at-decimal .before .before .if1 .left) (at-decimal .before .before .before .digit .ensures)
+    (at-decimal .put-decimal .ensures) (c .before .before .put-byte2 .ensures)
 
 pub +put-decimal-spec : {M : Type 1} → statement M
 +put-decimal-spec = close μ-put-decimal λ t. put-decimal-lts.spec (

@@ -1,5 +1,4 @@
 use borrow.Author.Tests.{eq-eqb, ne-eqb}
-use Prim.Native.Nat.{ℕ, _+_, _-_, _*_, _<_, _≤_}
 use borrow.Author.Needs.{needs}
 use Rattle.mac_frame.proofs.text.ends_line.Statement.{statement}
 use Rattle.mac_frame.proofs.text.ends_line.Tie as tie

@@ -1,5 +1,4 @@
 use Rattle.mac_frame.proofs.TextSteps.{hex-ended, hex-open}
-use Prim.Native.Nat.{ℕ, _+_, _-_, _*_, _<_, _≤_}
 use borrow.Author.Needs.{needs}
 use Rattle.mac_frame.proofs.text.put_hex.Statement.{statement}
 use Rattle.mac_frame.proofs.text.put_hex.Tie as tie
@@ -36,7 +35,9 @@ returns c =
     let at-low = c .before .before .before .before .before .before .before in
     let at-high = at-low .before .before .before .before in
     let at-digits = at-high .before .before in
-    hex-ended _ _ _ _ _ (at-digits .before .before .before .args .b) _ _ _ (c .before .before .before .before .if1 .taken) (at-digits .before .digit .ensures) (at-digits .digit2 .ensures) (at-high .put-byte .ensures) (at-low .put-byte2 .ensures) (c .before .before .put-byte3 .ensures)
+    hex-ended _ _ _ _ _ (at-digits .before .before .before .args .b) _ _ _ (c .before .before .before .before .if1 .taken)
+    (at-digits .before .digit .ensures) (at-digits .digit2 .ensures) (at-high .put-byte .ensures) (at-low .put-byte2 .ensures)
+    (c .before .before .put-byte3 .ensures)
 
 add-result-2 : tie.Need-add-result-2
 add-result-2 c = search needs
@@ -49,7 +50,8 @@ returns-2 c =
     let at-low = c .before .before .before in
     let at-high = at-low .before .before .before .before in
     let at-digits = at-high .before .before in
-    hex-open _ _ _ _ (at-digits .before .before .before .args .b) _ _ _ (c .if1 .left) (at-digits .before .digit .ensures) (at-digits .digit2 .ensures) (at-high .put-byte .ensures) (at-low .put-byte2 .ensures)
+    hex-open _ _ _ _ (at-digits .before .before .before .args .b) _ _ _ (c .if1 .left) (at-digits .before .digit .ensures)
+    (at-digits .digit2 .ensures) (at-high .put-byte .ensures) (at-low .put-byte2 .ensures)
 
 pub put-hex-spec : {M : Type 1} → statement M
 put-hex-spec =

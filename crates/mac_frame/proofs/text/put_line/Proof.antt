@@ -1,30 +1,29 @@
 use native.Mathlib.Omega.{arith}
 use Rattle.mac_frame.specs.Text.{space}
-use Rattle.mac_frame.proofs.TextSteps.{length-word, line-wrote}
-use Prim.Native.Nat.{ℕ, _+_, _-_, _*_, _<_, _≤_}
+use Rattle.mac_frame.proofs.TextSteps.{length-decimal-then, line-wrote}
 use borrow.Author.Needs.{needs}
 use Rattle.mac_frame.proofs.text.put_line.Statement.{statement}
 use Rattle.mac_frame.proofs.text.put_line.Tie as tie
 
-cast-put-word : tie.Need-cast-put-word
-cast-put-word c = search needs
+cast-put-decimal-then : tie.Need-cast-put-decimal-then
+cast-put-decimal-then c = search needs
 
-put-word-requires : tie.Need-put-word-requires
-put-word-requires c κs = search needs
+put-decimal-then-requires : tie.Need-put-decimal-then-requires
+put-decimal-then-requires c κs = search needs
 
-put-word-requires-2 : tie.Need-put-word-requires-2
-put-word-requires-2 c κs =
-    let p = c .before .before .before .put-word .ensures .place in
-    omega (arith, length-word (c .before .before .before .before .before .before .before .args .answer .number) space (omega arith))
+put-decimal-then-requires-2 : tie.Need-put-decimal-then-requires-2
+put-decimal-then-requires-2 c κs =
+    let p = c .before .before .before .put-decimal-then .ensures .place in
+    omega (arith, length-decimal-then (c .before .before .before .before .before .before .before .args .answer .number) space (omega arith))
 
-put-word-requires-3 : tie.Need-put-word-requires-3
-put-word-requires-3 c κs =
+put-decimal-then-requires-3 : tie.Need-put-decimal-then-requires-3
+put-decimal-then-requires-3 c κs =
     let at-second = c .before .before .before in
     let at-first = at-second .before .before .before .before in
     let a = at-first .before .before .before .before .args .answer in
-    let p = at-first .put-word .ensures .place in
-    let q = at-second .put-word2 .ensures .place in
-    omega (arith, length-word (a .number) space (omega arith), length-word (a .position) space (omega arith))
+    let p = at-first .put-decimal-then .ensures .place in
+    let q = at-second .put-decimal-then2 .ensures .place in
+    omega (arith, length-decimal-then (a .number) space (omega arith), length-decimal-then (a .position) space (omega arith))
 
 same-length : tie.Need-same-length
 same-length c = search needs
@@ -33,15 +32,16 @@ returns : tie.Need-returns
 returns c =
     let at-third = c .before .before in
     let at-second = at-third .before .before .before .before in
-    line-wrote _ _ _ _ _ _ _ _ _ (at-second .before .before .before .before .put-word .ensures) (at-second .put-word2 .ensures) (at-third .put-word3 .ensures)
+    line-wrote _ _ _ _ _ _ _ _ _ (at-second .before .before .before .before .put-decimal-then .ensures)
+    (at-second .put-decimal-then2 .ensures) (at-third .put-decimal-then3 .ensures)
 
 pub put-line-spec : {M : Type 1} → statement M
 put-line-spec =
     tie.close
     (tie.spec
-    cast-put-word
-    put-word-requires
-    put-word-requires-2
-    put-word-requires-3
+    cast-put-decimal-then
+    put-decimal-then-requires
+    put-decimal-then-requires-2
+    put-decimal-then-requires-3
     same-length
     returns)

@@ -1,7 +1,6 @@
-use native.Mathlib.Omega.{arith}
 use Rattle.mac_frame.proofs.TextSteps.{Lines, lines-start, lines-again, lines-end}
 use borrow.Author.Needs.{needs}
-use Prim.Native.Nat.{ℕ, _+_, _-_, _*_, _<_, _≤_}
+use Prim.Native.Nat.{_-_}
 use lib.ListN.{length}
 use Rattle.mac_frame.proofs.text.put_lines.Statement.{statement}
 use Rattle.mac_frame.proofs.text.put_lines.Tie as tie
@@ -34,7 +33,8 @@ loop-again : tie.Need-loop-again Inv-loop μ-loop
 loop-again c =
     let at-hex = c .before .before in
     let at-ends = at-hex .before .before .before in
-    lines-again _ _ _ _ _ _ _ _ _ (at-ends .before .before .loop .inv) (at-ends .before .loop-test .taken) (at-ends .ends-line .ensures) (at-hex .put-hex .ensures)
+    lines-again _ _ _ _ _ _ _ _ _ (at-ends .before .before .loop .inv) (at-ends .before .loop-test .taken) (at-ends .ends-line .ensures)
+    (at-hex .put-hex .ensures)
 
 same-length : tie.Need-same-length Inv-loop μ-loop
 same-length c = search needs

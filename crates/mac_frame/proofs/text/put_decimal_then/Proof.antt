@@ -1,9 +1,8 @@
 use native.Mathlib.Omega.{arith}
-use Rattle.mac_frame.proofs.TextSteps.{length-decimal, word-wrote}
-use Prim.Native.Nat.{ℕ, _+_, _-_, _*_, _<_, _≤_}
+use Rattle.mac_frame.proofs.TextSteps.{length-decimal, decimal-then-wrote}
 use borrow.Author.Needs.{needs}
-use Rattle.mac_frame.proofs.text.put_word.Statement.{statement}
-use Rattle.mac_frame.proofs.text.put_word.Tie as tie
+use Rattle.mac_frame.proofs.text.put_decimal_then.Statement.{statement}
+use Rattle.mac_frame.proofs.text.put_decimal_then.Tie as tie
 
 put-decimal-requires : tie.Need-put-decimal-requires
 put-decimal-requires c κs = search needs
@@ -21,8 +20,10 @@ same-length : tie.Need-same-length
 same-length c = search needs
 
 returns : tie.Need-returns
-returns c = word-wrote _ _ _ _ _ _ _ (c .before .before .before .before .before .before .put-decimal .ensures) (c .before .before .put-byte .ensures)
+returns c =
+    decimal-then-wrote _ _ _ _ _ _ _ (c .before .before .before .before .before .before .put-decimal .ensures)
+    (c .before .before .put-byte .ensures)
 
-pub put-word-spec : {M : Type 1} → statement M
-put-word-spec =
+pub put-decimal-then-spec : {M : Type 1} → statement M
+put-decimal-then-spec =
     tie.close (tie.spec put-decimal-requires put-byte-requires add-result same-length returns)

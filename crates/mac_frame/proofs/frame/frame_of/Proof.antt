@@ -1,8 +1,7 @@
 use Rattle.mac_frame.proofs.FrameSteps as steps
-use Prim.Native.Nat.{ℕ, _+_, _-_, _*_, _<_, _≤_}
 use borrow.Author.Needs.{needs}
-use Rattle.mac_frame.proofs.frame.frame_at.Statement.{statement}
-use Rattle.mac_frame.proofs.frame.frame_at.Tie as tie
+use Rattle.mac_frame.proofs.frame.frame_of.Statement.{statement}
+use Rattle.mac_frame.proofs.frame.frame_of.Tie as tie
 
 returns : tie.Need-returns
 returns c = search steps.too-long
@@ -53,10 +52,11 @@ returns-6 : tie.Need-returns-6
 returns-6 c =
     let at-list = c .before .before .before in
     let at-short = at-list .before .before .before in
-    steps.filled _ (at-short .before .if1 .left) (at-short .if2 .left) (at-list .before .if3 .left) _ (at-list .big32 .ensures) (c .before .before .if4 .left) _ (c .before .big322 .ensures) (c .if5 .left)
+    steps.filled _ (at-short .before .if1 .left) (at-short .if2 .left) (at-list .before .if3 .left) _ (at-list .big32 .ensures)
+    (c .before .before .if4 .left) _ (c .before .big322 .ensures) (c .if5 .left)
 
-pub frame-at-spec : {M : Type 1} → statement M
-frame-at-spec =
+pub frame-of-spec : {M : Type 1} → statement M
+frame-of-spec =
     tie.close
     (tie.spec
     returns

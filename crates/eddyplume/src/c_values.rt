@@ -1,10 +1,10 @@
-// Answers and verdicts in C's terms.
+// The values that C gets: answers, verdicts, yes or no; and the signature that it names.
 use answer::Answer;
 use mac::signature_mode::Signature;
 use mac::verdict::Verdict;
 ghost use mathlib.Core.Path.{_≡_};
 ghost use mathlib.Core.List.{[], _∷_};
-ghost use Rattle.eddyplume.specs.Boundary.{answerWords, verdictCode, whichOf, word};
+ghost use Rattle.eddyplume.specs.Boundary.{answerWords, verdictCode, whichOf, flag};
 
 // Number, position, length.
 pub(crate) fn answer_words(a: Answer) -> [u64; 3]
@@ -35,8 +35,8 @@ pub(crate) fn which_of(numbered: bool, number: u64) -> Signature
 }
 
 // 1 for yes, 0 for no.
-pub(crate) fn word_of(yes: bool) -> u64
-    ensures { λ r. ⌜ r ≡ word yes ⌝ }
+pub(crate) fn flag_of(yes: bool) -> u64
+    ensures { λ r. ⌜ r ≡ flag yes ⌝ }
 {
     if yes {
         return 1;

@@ -1,4 +1,4 @@
--- For inner contracts only; a reader need not believe it.
+-- For inner contracts; no part of what a reader has to believe: text written from a place on, and what a good frame holds.
 -- Assumes nothing.
 use Prim.Native.Nat.{ℕ, _+_, _≤_}
 use mathlib.Core.Path.{_≡_}

@@ -1,8 +1,7 @@
 -- `which_of` meets its contract. Assumes nothing.
 use Rattle.eddyplume.proofs.BoundarySteps as steps
-use borrow.Author.Needs.{needs}
-use Rattle.eddyplume.proofs.terms.which_of.Statement.{statement}
-use Rattle.eddyplume.proofs.terms.which_of.Tie as tie
+use Rattle.eddyplume.proofs.c_values.which_of.Statement.{statement}
+use Rattle.eddyplume.proofs.c_values.which_of.Tie as tie
 
 returns : tie.Need-returns
 returns c = search steps.which-number
