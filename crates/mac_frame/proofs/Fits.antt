@@ -4,24 +4,15 @@ use Prim.Native.Nat.{ℕ, _+_, _*_, _%_, _^_, _<_, _≤_}
 use mathlib.Core.Path.{_≡_, refl, sym, ap, _∙_}
 use mathlib.Core.Bool.{Bool, true, false, _||_}
 use mathlib.Core.List.{List, [], _∷_, _++_}
-use mathlib.Core.Option.{Option, some}
-use mathlib.Core.Option as Opt
 use native.Mathlib.Decide.{decLt}
 use native.Mathlib.Omega.{arith}
 use borrow.Author.Tests.{eq-eqb, ne-eqb, eqb-true}
-use lib.Dec.{eqb, ltb}
+use lib.Dec.{eqb}
 use lib.ListN.{length, length-append}
 use Rattle.answer.specs.declared.Answer.{Answer}
 use Rattle.answer.specs.If.{if_then_else_}
-use Rattle.answer.specs.Answer.{refused, _orElse_}
-use Rattle.answer.proofs.Chain.{or-else-holds}
-use Rattle.dataset.specs.Reading.{Reading, fault, read, sizeLimit, dataSet, answerOf, tree}
-use Rattle.dataset.specs.Tree.{Element, Elements}
-use Rattle.dataset.specs.Lookup.{elementOf}
-use Rattle.dataset.proofs.Theorems as dataset
-use Rattle.mac.specs.TagList.{tagsIn, ascendingAnswer, unbarredAnswer, barred, badSize, listAnswer}
-use Rattle.mac.specs.UN.{isUN, holdsUN}
-use Rattle.mac.specs.Modes.{elementAnswer, tagsAnswer, badDigestLength, answerFrom13}
+use Rattle.answer.specs.Answer.{refused}
+use Rattle.mac.specs.TagList.{tagsIn}
 use Rattle.mac.specs.ListMode.{Call, answer, stream, result}
 use Rattle.mac.specs.Result.{isAccepted}
 use Rattle.mac.proofs.Slices.{length-between}
@@ -68,59 +59,8 @@ hex-most column [] h = omega arith
 hex-most column (b ∷ rest) h = hex-by column b rest h (hex-most ((column + 1) % 32) rest (omega arith)) (decLt column 31)
 
 -- ---- numbers of list mode
-if-number : (t : Bool) (a b : Answer) → a .number ≤ 17 → b .number ≤ 17 → (if t then a else b) .number ≤ 17
-unfolding if_then_else_
-if-number true a b h k = h
-if-number false a b h k = k
-
-or-else-number : (a b : Answer) → a .number ≤ 17 → b .number ≤ 17 → (a orElse b) .number ≤ 17
-or-else-number a b h k = or-else-holds (λ (x : Answer). x .number ≤ 17) a b h (λ z. k)
-
-ascending-number : (index least : ℕ) (tags : List ℕ) → ascendingAnswer index least tags .number ≤ 17
-unfolding ascendingAnswer
-ascending-number index least [] = omega arith
-ascending-number index least (tag ∷ tags) = if-number (ltb tag least) _ _ (omega arith) (ascending-number (index + 1) (tag + 1) tags)
-
-unbarred-number : (index : ℕ) (tags : List ℕ) → unbarredAnswer index tags .number ≤ 17
-unfolding unbarredAnswer
-unbarred-number index [] = omega arith
-unbarred-number index (tag ∷ tags) = if-number (barred tag) _ _ (omega arith) (unbarred-number (index + 1) tags)
-
-list-number : (list : List ℕ) → listAnswer list .number ≤ 17
-unfolding listAnswer
-list-number list =
-    or-else-number _ _ (if-number (badSize (length list)) _ _ (omega arith) (omega arith))
-    (or-else-number _ _ (ascending-number 0 0 (tagsIn list)) (unbarred-number 0 (tagsIn list)))
-
-element-number : (index : ℕ) (o : Option Element) → elementAnswer index o .number ≤ 17
-unfolding elementAnswer
-element-number index Opt.none = omega arith
-element-number index (some e) = if-number (isUN e) _ _ (omega arith) (if-number (holdsUN e) _ _ (omega arith) (omega arith))
-
-tags-number : (index : ℕ) (tags : List ℕ) (es : Elements) → tagsAnswer index tags es .number ≤ 17
-unfolding tagsAnswer
-tags-number index [] es = omega arith
-tags-number index (tag ∷ tags) es = or-else-number _ _ (element-number index (elementOf tag es)) (tags-number (index + 1) tags es)
-
-from13-number : (tags : List ℕ) (es : Elements) (met : Bool) (bytes : List ℕ) (room : ℕ) (expected : Option (List ℕ))
-    → answerFrom13 tags es met bytes room expected .number ≤ 17
-unfolding answerFrom13
-from13-number tags es met bytes room expected =
-    or-else-number _ _ (tags-number 0 tags es)
-    (or-else-number _ _ (if-number (badDigestLength expected) _ _ (omega arith) (omega arith))
-    (or-else-number _ _ (if-number (ltb room (length bytes)) _ _ (omega arith) (omega arith))
-    (or-else-number _ _ (if-number met _ _ (omega arith) (omega arith)) (omega arith))))
-
-reading-number : (d : List ℕ) (r : Reading Elements) → dataSet d ≡ r → answerOf r .number ≤ 17
-reading-number d (fault f) e = let w = dataset.theorems .faults-inside d f e .upTo8 in omega arith
-reading-number d (read es next) e = omega arith
-
 answer-number : (c : Call) → answer c .number ≤ 17
-unfolding answer
-answer-number c =
-    or-else-number _ _ (if-number (ltb sizeLimit (length (c .set))) _ _ (omega arith) (omega arith))
-    (or-else-number _ _ (list-number (c .list))
-    (or-else-number _ _ (reading-number (c .set) (dataSet (c .set)) refl) (from13-number (tagsIn (c .list)) (tree (c .set)) _ _ _ _)))
+answer-number c = omega (arith, mac.theorems .numbers .most (inListMode c))
 
 -- ---- the first line
 tags-most : (l : List ℕ) → length (tagsIn l) ≤ length l
