@@ -64,10 +64,6 @@ module _ (d : List ℕ) (b : OfBytes d) where
   unfolding num16
   small16 i = omega (arith, b i, b (i + 1))
 
-  pub small-vr : (i : ℕ) → vrAt d i < 65536
-  unfolding vrAt
-  small-vr i = omega (arith, b (i + 4), b (i + 5))
-
   bytes16-at : (i : ℕ) → bytes16 (num16 d i) ≡ getD d i 0 ∷ getD d (i + 1) 0 ∷ []
   unfolding num16
   bytes16-at i = bytes-of (getD d i 0) (getD d (i + 1) 0) (b i) (b (i + 1))

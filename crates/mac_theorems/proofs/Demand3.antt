@@ -29,10 +29,10 @@ use Rattle.mac.specs.declared.verdict.Checked.{Checked}
 use Rattle.mac.specs.declared.verdict.Verdict.the-variants as verdict
 use Rattle.mac_theorems.specs.Demand3.{Accepted, signedInFragments, on, FirstHalf, SecondHalf, Run, written, FirstHalfOfCalls, SecondHalfOfCalls, StreamRuns, CheckRuns, listedHoldUN, SameResult, AcceptedHasContent, Demand3}
 use Rattle.mac_theorems.proofs.Encoding.{encodeElements}
-use Rattle.mac_theorems.proofs.Decoding.{ElementsDecodable, injective}
-use Rattle.mac_theorems.proofs.Decodable.{WithinSize}
+use Rattle.mac_theorems.proofs.Injective.{ElementsFit, injective}
+use Rattle.mac_theorems.proofs.Fitting.{WithinSize}
 use Rattle.mac.proofs.ListedElements.{HasContent, has-content}
-use Rattle.mac_theorems.proofs.ListedContent.{listed-encoded, content-decodable, same-tags, none-hold}
+use Rattle.mac_theorems.proofs.ListedContent.{listed-encoded, content-fits, same-tags, none-hold}
 use Rattle.mac_theorems.proofs.Answers.{answer-regular}
 use Rattle.mac_theorems.proofs.Outputs.{output-stream}
 use Rattle.mac_theorems.proofs.Acceptance.{IsRead, is-read, Accepts, accepts, answer-read, answer-accepted}
@@ -49,9 +49,9 @@ module _ (c : Call) (b : OfBytes (c .set)) (r : IsRead (c .set)) (row : SignedEl
   unfolding stream contentOf
   stream-encoded = listed-encoded (c .set) within (tree (c .set)) _ 0 0 (r .next) (placed .tree) (tagsIn (c .list)) row is
 
-  call-decodable : signedInFragments (contentOf c) ≡ false → ElementsDecodable row
+  call-fits : ElementsFit row
   unfolding contentOf
-  call-decodable n = content-decodable (c .set) within (tree (c .set)) _ 0 0 (r .next) (placed .tree) (tagsIn (c .list)) row is (sym (ap signedInFragments is) ∙ n)
+  call-fits = content-fits (c .set) within (tree (c .set)) _ 0 0 (r .next) (placed .tree) (tagsIn (c .list)) row is
 
 -- an accepted call has a signed content
 call-has-content : (c : Call) → Accepts c → HasContent (tagsIn (c .list)) (tree (c .set)) (c .set)
@@ -63,7 +63,7 @@ number-0 c h = eqb-true (answer c .number) 0 h
 -- ---- over the definitions
 pub first-half : FirstHalf
 unfolding contentOf
-first-half c k b b′ h h′ n n′ = (there, here)
+first-half c k b b′ h h′ n = (there, here)
   where
     a : Accepts c
     a = accepts c (number-0 c h)
@@ -87,7 +87,8 @@ first-half c k b b′ h h′ n n′ = (there, here)
     there q =
         s .is
         ∙ ap some
-        (injective (s .row) (s′ .row) (call-decodable c b (a .read) (s .row) (s .is) n) (call-decodable k b′ (a′ .read) (s′ .row) (s′ .is) n′) (sym e ∙ q ∙ e′))
+        (injective (s .row) (s′ .row) (call-fits c b (a .read) (s .row) (s .is)) (call-fits k b′ (a′ .read) (s′ .row) (s′ .is))
+        (sym (ap signedInFragments (s .is)) ∙ n) (sym e ∙ q ∙ e′))
         ∙ sym (s′ .is)
 
     here : contentOf c ≡ contentOf k → stream c ≡ stream k
@@ -160,12 +161,12 @@ module _ (c : Call) (out after : List ℕ) (r : Checked) (u : Run c out r after)
   written-stream h = ap₂ (λ (x : Answer) (y : List ℕ). take (x .length) y) (u .answers) (u .output) ∙ output-stream (result c) out h (ap (λ (x : Answer). x .length) (answer-accepted c h))
 
 pub first-half-of-calls : FirstHalfOfCalls
-first-half-of-calls c k out out′ after after′ r r′ u u′ b b′ h h′ n n′ =
+first-half-of-calls c k out out′ after after′ r r′ u u′ b b′ h h′ n =
     let a = run-accepted c out after r u h in
     let a′ = run-accepted k out′ after′ r′ u′ h′ in
     let w = written-stream c out after r u a in
     let w′ = written-stream k out′ after′ r′ u′ a′ in
-    let f = first-half c k b b′ a a′ n n′ in
+    let f = first-half c k b b′ a a′ n in
     (λ q. f .0 (sym w ∙ q ∙ w′), λ q. w ∙ f .1 q ∙ sym w′)
 
 pub second-half-of-calls : SecondHalfOfCalls

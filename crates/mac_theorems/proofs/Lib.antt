@@ -1,7 +1,7 @@
 pub mod ByteSlices
 pub mod Encoding
-pub mod Decoding
-pub mod Decodable
+pub mod Injective
+pub mod Fitting
 pub mod FoundLies
 pub mod ListedContent
 pub mod ListStreamLength

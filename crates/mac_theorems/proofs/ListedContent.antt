@@ -9,15 +9,15 @@ use Rattle.answer.specs.Answer.{_orElse_}
 use Rattle.dataset.specs.Tree.{Element, Elements}
 use Rattle.dataset.proofs.Lies.{ElementsLie}
 use Rattle.dataset.specs.Lookup.{elementOf}
-use Rattle.mac.specs.Content.{SignedElements, signed, joined, content, inFragments, someInFragments}
+use Rattle.mac.specs.Content.{SignedElements, signed, joined, content}
 use Rattle.mac.specs.Stream.{foundStream, listedStream}
 use Rattle.mac.specs.UN.{holdsUN}
 use Rattle.mac.specs.Modes.{elementAnswer, tagsAnswer}
 use Rattle.mac_theorems.specs.Demand3.{foundHoldsUN, listedHoldUN}
 use Rattle.dataset.proofs.Bools.{neither}
 use Rattle.mac_theorems.proofs.Encoding.{encodeElements, element-encoded}
-use Rattle.mac_theorems.proofs.Decoding.{ElementsDecodable}
-use Rattle.mac_theorems.proofs.Decodable.{WithinSize, element-decodable}
+use Rattle.mac_theorems.proofs.Injective.{ElementsFit}
+use Rattle.mac_theorems.proofs.Fitting.{WithinSize, element-fits}
 use Rattle.mac.proofs.UN.{same-vr}
 use Rattle.mac.proofs.ListedElements.{tags-unrefused}
 use Rattle.mac_theorems.proofs.FoundLies.{found-at}
@@ -35,7 +35,7 @@ joined-of Opt.none p d row h = absurd (true≢false (cc))
 joined-of (some e) Opt.none d row h = absurd (true≢false (cc))
 joined-of (some e) (some r) d row h = record { element = e; rest = r; found = refl; others = refl; is = cc }
 
--- ---- the stream is the content's encoding, and the content is decodable
+-- ---- the stream is the content's encoding, and the content's numbers fit
 module _ (d : List ℕ) (within : WithinSize d) (es : Elements) (left floor at next : ℕ) (lies : ElementsLie es d left floor at next) where
   pub listed-encoded : (tags : List ℕ) (row : SignedElements) → content tags es d ≡ some row → listedStream tags es d ≡ encodeElements row
   unfolding content listedStream encodeElements
@@ -47,17 +47,13 @@ module _ (d : List ℕ) (within : WithinSize d) (es : Elements) (left floor at n
       ∙ ap (λ (x : List ℕ). x ++ encodeElements (j .rest)) (element-encoded (j .element) d (within .bytes) left (f .from) (f .mid) (f .lies))
       ∙ ap encodeElements (j .is)
 
-  pub content-decodable : (tags : List ℕ) (row : SignedElements) → content tags es d ≡ some row → someInFragments row ≡ false → ElementsDecodable row
-  unfolding content someInFragments ElementsDecodable
-  content-decodable [] row h n = let q : SignedElements.none ≡ row = cc in subst ElementsDecodable q tt
-  content-decodable (tag ∷ tags) row h n =
+  pub content-fits : (tags : List ℕ) (row : SignedElements) → content tags es d ≡ some row → ElementsFit row
+  unfolding content ElementsFit
+  content-fits [] row h = let q : SignedElements.none ≡ row = cc in subst ElementsFit q tt
+  content-fits (tag ∷ tags) row h =
       let j = joined-of (elementOf tag es) (content tags es d) d row h in
       let f = found-at tag es d left floor at next lies (j .element) (j .found) in
-      let m : someInFragments (SignedElements.and (signed (j .element) d) (j .rest)) ≡ false = ap someInFragments (j .is) ∙ n in
-      subst ElementsDecodable (j .is) (
-        element-decodable (j .element) d within left (f .from) (f .mid) (f .lies) (neither (inFragments (signed (j .element) d)) (someInFragments (j .rest)) m .0),
-        content-decodable tags (j .rest) (j .others) (neither (inFragments (signed (j .element) d)) (someInFragments (j .rest)) m .1),
-      )
+      subst ElementsFit (j .is) (element-fits (j .element) d within left (f .from) (f .mid) (f .lies), content-fits tags (j .rest) (j .others))
 
 -- ---- the same content in another data set, with no UN inside a listed sequence in either: the same of 13, 14 and 15
 

@@ -44,12 +44,11 @@ listedHoldUN (tag ∷ tags) es = foundHoldsUN (elementOf tag es) || listedHoldUN
 abbrev pub on : Call → List ℕ → Call
 on c s = record { list = c .list; set = s; room = c .room; expected = c .expected }
 
--- First half, of two accepted calls, whatever their data sets and lists, with nothing signed in fragments in either (docs/DECISIONS.md,
--- L13).
+-- First half, of two accepted calls, whatever their data sets and lists. Nothing signed is in fragments in one of them; of the other
+-- nothing is asked (docs/DECISIONS.md, L13).
 abbrev pub FirstHalf : Type 0
 FirstHalf =
-    (c k : Call) → OfBytes (c .set) → OfBytes (k .set) → Accepted c → Accepted k
-    → signedInFragments (contentOf c) ≡ false → signedInFragments (contentOf k) ≡ false
+    (c k : Call) → OfBytes (c .set) → OfBytes (k .set) → Accepted c → Accepted k → signedInFragments (contentOf c) ≡ false
     → (stream c ≡ stream k) ↔ (contentOf c ≡ contentOf k)
 
 -- the two calls have the same answer, verdict and stream
@@ -88,7 +87,7 @@ abbrev pub FirstHalfOfCalls : Type 0
 FirstHalfOfCalls =
     (c k : Call) (out out′ after after′ : List ℕ) (r r′ : Checked) → Run c out r after → Run k out′ r′ after′
     → OfBytes (c .set) → OfBytes (k .set) → r .answer .number ≡ 0 → r′ .answer .number ≡ 0
-    → signedInFragments (contentOf c) ≡ false → signedInFragments (contentOf k) ≡ false
+    → signedInFragments (contentOf c) ≡ false
     → (written r after ≡ written r′ after′) ↔ (contentOf c ≡ contentOf k)
 
 -- "the two answers are equal, in a check the verdict too, and so are the first length bytes of the two outputs or work buffers"
