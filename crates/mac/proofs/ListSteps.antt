@@ -121,10 +121,10 @@ module _ (l d xs ys : List ℕ) (left at next least past : ℕ) (c : Keep) (s s�
         state = rw z record { below = omega arith; few = omega arith; order = rw t; fine = λ h. absurd (omega arith); form = λ h. absurd (k h) };
       }
 
-  turn : (tags : List ℕ) → from l (s .index) ≡ tags → c ≡ nextListed tags → s′ ≡ mergedOf (length l / 4) tags s (tagOf e) (isUN e) (holdsUN e) past → Turn
+  turn : (tags : List ℕ) → from l (s .index) ≡ tags → c ≡ nextListed tags → s′ ≡ mergedOf (length l / 4) c s (tagOf e) (isUN e) (holdsUN e) past → Turn
   unfolding nextListed mergedOf ascendingAnswer if_then_else_
-  turn [] t k z = stays z (same-output (rw k)) (rw t) (rw t (on-none d q e (s .answer) (s .index) xs))
-  turn (wanted ∷ tags) t k z = go (ltb (tagOf e) wanted) (ltb wanted (tagOf e)) (isUN e) (holdsUN e) refl refl refl refl z
+  turn [] t k z = stays (rw k at z) (same-output (rw k)) (rw t) (rw t (on-none d q e (s .answer) (s .index) xs))
+  turn (wanted ∷ tags) t k z = go (ltb (tagOf e) wanted) (ltb wanted (tagOf e)) (isUN e) (holdsUN e) refl refl refl refl (rw k at z)
     where
       here : s .index < length l / 4
       here = still l s wanted tags t
@@ -173,7 +173,7 @@ module _ (l d xs ys : List ℕ) (left at next least past : ℕ) (c : Keep) (s s�
 
 turned : (l d xs ys : List ℕ) (left at next least past : ℕ) (c : Keep) (s s′ : Listed) (e : Element) (tag : ℕ) (unknown holds : Bool) (q : Reading Elements) → State l at least s → at < next
     → past ≤ s .answer .length + (next - at) → past ≡ s .answer .length + length (oneStream (keeps c) (element e) d) → ys ≡ sets xs (s .answer .length) (oneStream (keeps c) (element e) d)
-    → tagOf e ≡ tag → isUN e ≡ unknown → holdsUN e ≡ holds → c ≡ nextListed (from l (s .index)) → s′ ≡ mergedOf (length l / 4) (from l (s .index)) s tag unknown holds past
+    → tagOf e ≡ tag → isUN e ≡ unknown → holdsUN e ≡ holds → c ≡ nextListed (from l (s .index)) → s′ ≡ mergedOf (length l / 4) c s tag unknown holds past
     → ((es : Elements) (n : ℕ) → q ≡ read es n → ElementsLie es d left (tag + 1) next n)
     → On d (q >>= inFront e) (s .answer) (s .index) (from l (s .index)) xs q (s′ .answer) (s′ .index) (from l (s′ .index)) ys × State l next (tag + 1) s′
 turned l d xs ys left at next least past c s s′ e tag unknown holds q i a b m y f g h k z lie =
@@ -228,7 +228,7 @@ module _ (l d : List ℕ) (x : Extent) (xs₀ xs : List ℕ) (at least : ℕ) (s
         let lies = walk.one-lies (keeps c) d (x .delimited) (x .left) (x .stop) at least (s .answer .length) r xs ys (i .inside) w tag unknown holds next past q (i .within) in
         omega (arith, lies .past, lies .inside)
 
-    pub list-again : (s′ : Listed) → s′ ≡ mergedOf (length l / 4) (from l (s .index)) s tag unknown holds past → ListLoop l d x xs₀ ys next (tag + 1) s′
+    pub list-again : (s′ : Listed) → s′ ≡ mergedOf (length l / 4) c s tag unknown holds past → ListLoop l d x xs₀ ys next (tag + 1) s′
     list-again s′ z =
         let e = walk.one-found (keeps c) d (x .delimited) (x .left) (x .stop) at least (s .answer .length) r xs ys (i .inside) w tag unknown holds next past q in
         let lies = walk.one-lies (keeps c) d (x .delimited) (x .left) (x .stop) at least (s .answer .length) r xs ys (i .inside) w tag unknown holds next past q (i .within) in

@@ -6,7 +6,7 @@ use crate::writer;
 use crate::writer::OneWritten;
 use answer::Answer;
 ghost use mathlib.Core.Path.{_≡_};
-ghost use Prim.Native.Nat.{_*_, _/_};
+ghost use Prim.Native.Nat.{_*_, _/_, _≤_};
 ghost use lib.ListN.{length, drop};
 ghost use Rattle.answer.specs.Answer as Spec;
 ghost use Rattle.mac.specs.TagList.{tagsIn, ascendingAnswer};
@@ -41,16 +41,25 @@ fn stopped(count: usize, number: u8, index: usize) -> Listed
     }
 }
 
-// What is found after one element more, by its tag, whether it is UN, whether it holds UN, and where its stream ends.
-fn merged(list: &[u8], before: Listed, tag: u32, is_un: bool, holds_un: bool, to: usize) -> Listed
-    ensures { λ r. ⌜ r ≡ mergedOf (length (now (list .entry)) / 4) (tagsIn (drop (4 * before .index) (now (list .entry)))) before tag «is_un» «holds_un» to ⌝ }
+// What is found after one element more, by which element was wanted, its tag, whether it is UN, whether it holds UN, and where its
+// stream ends.
+fn merged(
+    list: &[u8],
+    keep: Keep,
+    before: Listed,
+    tag: u32,
+    is_un: bool,
+    holds_un: bool,
+    to: usize,
+) -> Listed
+    requires { ⌜ before .index ≤ length (now list) / 4 ⌝ }
+    ensures { λ r. ⌜ r ≡ mergedOf (length (now (list .entry)) / 4) keep before tag «is_un» «holds_un» to ⌝ }
 {
     let count = list.len() / 4;
     let index = before.index;
-    if count <= index {
+    let Keep::Only(wanted) = keep else {
         return before;
-    }
-    let wanted = tag_list::tag_at(list, index);
+    };
     if tag < wanted {
         return before;
     }
@@ -104,7 +113,7 @@ pub(crate) fn walk_list(list: &[u8], d: &[u8], x: Extent, out: &mut [u8]) -> Ans
                 next,
                 to: past,
             } => {
-                found = merged(list, found, tag, is_un, holds_un, past);
+                found = merged(list, keep, found, tag, is_un, holds_un, past);
                 at = next;
                 least = tag as u64 + 1;
             }

@@ -48,15 +48,16 @@ nextListed (wanted ∷ tags) = keep.Only wanted
 abbrev pub stoppedOf : (count number index : ℕ) → Listed
 stoppedOf count number index = record { index = count; answer = refused number index }
 
--- what is found after one element more, by the tags that were left
-unfoldable pub mergedOf : (count : ℕ) (tags : List ℕ) → Listed → (tag : ℕ) (isUN holds : Bool) (to : ℕ) → Listed
-mergedOf count [] s tag isUN holds to = s
-mergedOf count (wanted ∷ tags) s tag isUN holds to =
+-- what is found after one element more, by which element was wanted
+unfoldable pub mergedOf : (count : ℕ) → Keep → Listed → (tag : ℕ) (isUN holds : Bool) (to : ℕ) → Listed
+mergedOf count keep.Unbarred s tag isUN holds to = s
+mergedOf count (keep.Only wanted) s tag isUN holds to =
     if ltb tag wanted then s else
     if ltb wanted tag then stoppedOf count 13 (s .index) else
     if isUN then stoppedOf count 14 (s .index) else
     if holds then stoppedOf count 15 (s .index) else
     record { index = s .index + 1; answer = accepted to }
+mergedOf count keep.Nothing s tag isUN holds to = s
 
 -- what is found at the end of the data set
 unfoldable pub endedOf : (tags : List ℕ) → Listed → Answer

@@ -1,15 +1,14 @@
--- `merged` meets its contract: each place by its law in ListedSteps, TagListSteps. Assumes nothing.
+-- `merged` meets its contract: each place by its law in ListedSteps. Assumes nothing.
 use Rattle.mac.proofs.ListedSteps as steps
-use Rattle.mac.proofs.TagListSteps as tags
 use borrow.Author.Needs.{needs}
 use Rattle.mac.proofs.listed.merged.Statement.{statement}
 use Rattle.mac.proofs.listed.merged.Tie as tie
 
+enum-known-keep : tie.Need-enum-known-keep
+enum-known-keep c = search needs
+
 returns : tie.Need-returns
 returns c = search steps.merged-none
-
-tag-at-requires : tie.Need-tag-at-requires
-tag-at-requires c κs = search (tags.tag-inside, needs)
 
 returns-2 : tie.Need-returns-2
 returns-2 c = search steps.merged-before
@@ -35,8 +34,8 @@ returns-5 c = search steps.merged-holds
 accepted-requires : tie.Need-accepted-requires
 accepted-requires c κs = search needs
 
-add-t11 : tie.Need-add-t11
-add-t11 c = search needs
+add-t12 : tie.Need-add-t12
+add-t12 c = search needs
 
 returns-6 : tie.Need-returns-6
 returns-6 c = search steps.merged-found
@@ -45,8 +44,8 @@ pub merged-spec : {M : Type 1} → statement M
 merged-spec =
     tie.close
     (tie.spec
+    enum-known-keep
     returns
-    tag-at-requires
     returns-2
     stopped-requires
     returns-3
@@ -55,5 +54,5 @@ merged-spec =
     stopped-requires-3
     returns-5
     accepted-requires
-    add-t11
+    add-t12
     returns-6)
