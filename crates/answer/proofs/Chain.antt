@@ -19,6 +19,15 @@ pub or-else-first : (a b : Answer) → (a .number ≡ 0 → ⊥) → (a orElse b
 unfolding _orElse_ if_then_else_
 or-else-first a b h = rw (ne-eqb (a .number) 0 h)
 
+-- where the first is accepted the seconds are the same
+pub or-else-same : (a b c : Answer) → (a .number ≡ 0 → b ≡ c) → (a orElse b) ≡ (a orElse c)
+unfolding _orElse_ if_then_else_
+or-else-same a b c h = go (eqb (a .number) 0) refl
+  where
+    go : (x : Bool) → eqb (a .number) 0 ≡ x → (if x then b else a) ≡ (if x then c else a)
+    go true e = h (eqb-true (a .number) 0 e)
+    go false e = refl
+
 pub or-else-assoc : (a b c : Answer) → ((a orElse b) orElse c) ≡ (a orElse (b orElse c))
 unfolding _orElse_ if_then_else_
 or-else-assoc a b c = go (eqb (a .number) 0) refl

@@ -15,7 +15,7 @@ use Rattle.answer.proofs.Chain.{both-accepted}
 use Rattle.dataset.specs.Tree.{Elements}
 use Rattle.dataset.specs.Reading.{fault, read, sizeLimit}
 use Rattle.mac.specs.TagList.{tagsIn, badSize, ascendingAnswer, unbarredAnswer, listAnswer}
-use Rattle.mac.specs.Modes.{tagsAnswer, answerFrom13}
+use Rattle.mac.specs.Modes.{answerFrom13}
 use Rattle.mac.specs.Result.{Result, outputAfter, Streamed}
 use Rattle.mac.specs.Inner.Extent.{Lies, elementsIn, wholeOf}
 use Rattle.mac.specs.Inner.Calls.{wholeStream, AnsweredFrom13, CallAnswered}
@@ -66,12 +66,11 @@ module _ (call : Option (List ℕ) → Result) (l d : List ℕ) (x : Extent) (fo
       (call-refused call bad out r (λ expected. v .0 ∙ q expected) (λ z. h (ap (λ (y : Answer). y .number) (sym (v .0)) ∙ z)))
 
   -- the data set is read
-  pub call-read : (es : Elements) (next : ℕ) (metUN : Bool) → elementsIn d x ≡ read es next → length d ≤ sizeLimit
-      → (tagsAnswer 0 (tagsIn l) es .number ≡ 0 → metUN ≡ false)
-      → ((expected : Option (List ℕ)) → _≡_ {A = Result} (record { answer = answerFrom13 (tagsIn l) es metUN (wholeStream (tagsIn l) es d follows) (length out) expected; stream = wholeStream (tagsIn l) es d follows; expected = expected }) (call expected))
+  pub call-read : (es : Elements) (next : ℕ) → elementsIn d x ≡ read es next → length d ≤ sizeLimit
+      → ((expected : Option (List ℕ)) → _≡_ {A = Result} (record { answer = answerFrom13 (tagsIn l) es (wholeStream (tagsIn l) es d follows) (length out) expected; stream = wholeStream (tagsIn l) es d follows; expected = expected }) (call expected))
       → CallAnswered call bad out r ys
-  call-read es next metUN e h unmet q = record {
-    streamed = λ expected b. subst (λ (c : Result). Streamed c out r ys) (q expected) (t .streamed es next e metUN unmet expected b);
+  call-read es next e h q = record {
+    streamed = λ expected b. subst (λ (c : Result). Streamed c out r ys) (q expected) (t .streamed es next e expected b);
     long = λ expected z. t .long es next e z ∙ ap (λ (c : Result). length (c .stream)) (q expected);
     room = t .room;
     short = λ z. omega (arith, t .short z);

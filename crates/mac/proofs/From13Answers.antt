@@ -1,7 +1,7 @@
 -- The end of the order, which both modes share: what an accepted one leaves, and its answer. Assumes nothing.
 use Prim.Native.Nat.{ℕ}
 use mathlib.Core.Path.{_≡_, _∙_}
-use mathlib.Core.Bool.{Bool, false}
+use mathlib.Core.Bool.{false}
 use mathlib.Core.List.{List}
 use mathlib.Core.Option.{Option}
 use native.Mathlib.Omega.{arith}
@@ -19,8 +19,8 @@ pub record From13Accepts (tags : List ℕ) (es : Elements) (stream : List ℕ) (
   pub digest : badDigestLength expected ≡ false
   pub fits : ltb room (length stream) ≡ false
 
-module _ (tags : List ℕ) (es : Elements) (metUN : Bool) (stream : List ℕ) (room : ℕ) (expected : Option (List ℕ)) where
-  pub from13-accepts : answerFrom13 tags es metUN stream room expected .number ≡ 0 → From13Accepts tags es stream room expected
+module _ (tags : List ℕ) (es : Elements) (stream : List ℕ) (room : ℕ) (expected : Option (List ℕ)) where
+  pub from13-accepts : answerFrom13 tags es stream room expected .number ≡ 0 → From13Accepts tags es stream room expected
   unfolding answerFrom13
   from13-accepts h =
       let found = both-accepted _ _ h in
@@ -32,10 +32,9 @@ module _ (tags : List ℕ) (es : Elements) (metUN : Bool) (stream : List ℕ) (r
         fits = passed (ltb room (length stream)) 16 0 (λ z. omega arith) (fits .first);
       }
 
-  pub from13-accepted : From13Accepts tags es stream room expected → metUN ≡ false → answerFrom13 tags es metUN stream room expected ≡ accepted (length stream)
+  pub from13-accepted : From13Accepts tags es stream room expected → answerFrom13 tags es stream room expected ≡ accepted (length stream)
   unfolding answerFrom13 if_then_else_
-  from13-accepted a unmet =
+  from13-accepted a =
       or-else-second _ _ (a .found)
       ∙ or-else-second _ _ (rw (a .digest))
       ∙ or-else-second _ _ (rw (a .fits))
-      ∙ or-else-second _ _ (rw unmet)

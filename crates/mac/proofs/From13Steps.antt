@@ -1,5 +1,5 @@
 -- The end of the order, place by place of `answer_from_13` and `answer_from_10`, with the facts of the place as premises. Assumes nothing.
-use Prim.Native.Nat.{ℕ, _-_, _≤_, _<_}
+use Prim.Native.Nat.{ℕ, _≤_, _<_}
 use native.Mathlib.Nat.{zero-add}
 use mathlib.Core.Path.{_≡_, refl, sym, ap, _∙_}
 use mathlib.Core.Bool.{Bool, true, false}
@@ -45,9 +45,9 @@ module _ (l d : List ℕ) (x : Extent) (follows : SignatureItem) (bad : Bool) (o
     long : (r : Answer) (ys zs : List ℕ) → m .number ≡ 0 → StreamWalk l d x follows r ys zs → r ≡ accepted (length all)
     long r ys zs h v = measured-is r ys zs v ∙ or-else-second t _ (found h)
 
-    module _ (metUN : Bool) (unmet : t .number ≡ 0 → metUN ≡ false) (expected : Option (List ℕ)) (b : badDigestLength expected ≡ bad) where
+    module _ (expected : Option (List ℕ)) (b : badDigestLength expected ≡ bad) where
       abbrev whole : Answer
-      whole = answerFrom13 (tagsIn l) es metUN all (length out) expected
+      whole = answerFrom13 (tagsIn l) es all (length out) expected
 
       abbrev result : Result
       result = record { answer = whole; stream = all; expected = expected }
@@ -60,7 +60,7 @@ module _ (l d : List ℕ) (x : Extent) (follows : SignatureItem) (bad : Bool) (o
       unfolding answerFrom13
       tags-refuse h = go (eqb (t .number) 0) refl
         where
-          go : (c : Bool) → eqb (t .number) 0 ≡ c → m ≡ answerFrom13 (tagsIn l) es metUN all (length out) expected
+          go : (c : Bool) → eqb (t .number) 0 ≡ c → m ≡ answerFrom13 (tagsIn l) es all (length out) expected
           go true q = absurd (h (ap (λ (z : Answer). z .number) (measured-is m xs ns w ∙ or-else-second t _ (eqb-true (t .number) 0 q))))
           go false q = let n = eqb-false (t .number) 0 q in measured-is m xs ns w ∙ or-else-first t _ n ∙ sym (or-else-first t _ n)
 
@@ -76,8 +76,8 @@ module _ (l d : List ℕ) (x : Extent) (follows : SignatureItem) (bad : Bool) (o
 
         accepts : bad ≡ false → length all ≤ length out → whole ≡ accepted (length all)
         accepts k j =
-            from13-accepted (tagsIn l) es metUN all (length out) expected
-            (record { found = found h; digest = b ∙ k; fits = le-ltb (length out) (length all) j }) (unmet (found h))
+            from13-accepted (tagsIn l) es all (length out) expected
+            (record { found = found h; digest = b ∙ k; fits = le-ltb (length out) (length all) j })
 
         written-out : (r : Answer) (ys : List ℕ) → bad ≡ false → length all ≤ length out → r ≡ accepted (length all) → ys ≡ sets out 0 all → Streamed result out r ys
         unfolding outputAfter if_then_else_
@@ -102,7 +102,7 @@ module _ (l d : List ℕ) (x : Extent) (follows : SignatureItem) (bad : Bool) (o
   pub from13-tags : (m .number ≡ 0 → ⊥) → AnsweredFrom13 l d x follows bad out m out
   unfolding walkAnswer
   from13-tags h =
-      from13-refuses m h (λ f e. w .answers ∙ rw e) (λ es next e metUN unmet expected b. leaves-out es next e metUN unmet expected b m (tags-refuse es next e metUN unmet expected b h) h)
+      from13-refuses m h (λ f e. w .answers ∙ rw e) (λ es next e expected b. leaves-out es next e expected b m (tags-refuse es next e expected b h) h)
 
   module _ (h : m .number ≡ 0) where
     no-fault : (f : Answer) → elementsIn d x ≡ fault f → ⊥
@@ -116,14 +116,14 @@ module _ (l d : List ℕ) (x : Extent) (follows : SignatureItem) (bad : Bool) (o
     from13-digest a k q =
         let z : a .number ≡ 0 → ⊥ = λ y. let v : _≡_ {A = ℕ} 9 0 = ap (λ (z : Answer). z .number) (sym q) ∙ y in omega arith in
         from13-refuses a z (λ f e. absurd (no-fault f e))
-        (λ es next e metUN unmet expected b. leaves-out es next e metUN unmet expected b a (digest-refuses es next e metUN unmet expected b h a k q) z)
+        (λ es next e expected b. leaves-out es next e expected b a (digest-refuses es next e expected b h a k q) z)
 
     pub from13-room : (a : Answer) → bad ≡ false → length out < m .length → a ≡ refused 16 0 → AnsweredFrom13 l d x follows bad out a out
     from13-room a k j q =
         let z : a .number ≡ 0 → ⊥ = λ y. let v : _≡_ {A = ℕ} 16 0 = ap (λ (z : Answer). z .number) (sym q) ∙ y in omega arith in
         from13-refuses a z (λ f e. absurd (no-fault f e))
-        (λ es next e metUN unmet expected b.
-        leaves-out es next e metUN unmet expected b a (room-refuses es next e metUN unmet expected b h a k (omega (arith, measured-length es next e)) q) z)
+        (λ es next e expected b.
+        leaves-out es next e expected b a (room-refuses es next e expected b h a k (omega (arith, measured-length es next e)) q) z)
 
     module _ (r : Answer) (ys : List ℕ) (v : StreamWalk l d x follows r out ys) where
       written-by : (es : Elements) (next : ℕ) → elementsIn d x ≡ read es next → ys ≡ sets out 0 (wholeStream (tagsIn l) es d follows)
@@ -140,8 +140,8 @@ module _ (l d : List ℕ) (x : Extent) (follows : SignatureItem) (bad : Bool) (o
       from13-written k j =
           record {
             refused = λ f e. absurd (no-fault f e);
-            streamed = λ es next e metUN unmet expected b.
-                written-out es next e metUN unmet expected b h r ys k (omega (arith, measured-length es next e)) (long es next e r out ys h v) (written-by es next e);
+            streamed = λ es next e expected b.
+                written-out es next e expected b h r ys k (omega (arith, measured-length es next e)) (long es next e r out ys h v) (written-by es next e);
             long = λ es next e z. ap (λ (z : Answer). z .length) (long es next e r out ys h v);
             room = λ z. room-by j (elementsIn d x) refl;
             short = λ z. v .short;

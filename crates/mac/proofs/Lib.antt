@@ -1,11 +1,9 @@
 pub mod Slices
 pub mod OutputSteps
-pub mod UN
-pub mod ListedElements
 pub mod From13Answers
 pub mod StreamLength
-pub mod OwnContent
-pub mod SignatureAnswers
+pub mod OwnElements
+pub mod SelectionNumbers
 pub mod TagListSteps
 pub mod KeepSteps
 pub mod WrittenSteps

@@ -1,6 +1,6 @@
 -- What list mode answers and leaves, place by place, with the facts of the place as premises. Assumes nothing.
 use Prim.Native.Nat.{ℕ, _≤_, _<_}
-use mathlib.Core.Path.{_≡_, refl, sym, ap, ap₂, _∙_, subst}
+use mathlib.Core.Path.{_≡_, refl, sym, ap, ap₂, _∙_}
 use mathlib.Core.Bool.{Bool, true, false}
 use mathlib.Core.List.{List, append-nil}
 use mathlib.Core.Option.{Option, some}
@@ -17,18 +17,15 @@ use Rattle.dataset.specs.Reading.{Reading, fault, read, sizeLimit, dataSet, ans
 use Rattle.dataset.proofs.Steps.{data-set-is}
 use Rattle.dataset.proofs.Theorems.{faults-inside}
 use Rattle.mac.specs.TagList.{tagsIn, listAnswer}
-use Rattle.mac.specs.Content.{content}
 use Rattle.mac.specs.Stream.{listedStream}
-use Rattle.mac.specs.Modes.{tagsAnswer, answerFrom13, badDigestLength}
-use Rattle.mac.specs.UN.{contentWritesUN}
+use Rattle.mac.specs.Modes.{answerFrom13, badDigestLength}
 use Rattle.mac.specs.Result.{Result, Streamed, CheckedAs}
-use Rattle.mac.specs.ListMode.{contentOf, stream, answer, result, streamCall, checkCall}
+use Rattle.mac.specs.ListMode.{stream, answer, result, streamCall, checkCall}
 use Rattle.mac.specs.Inner.Extent.{elementsIn, wholeOf}
 use Rattle.mac.specs.Inner.Calls.{wholeStream, AnsweredFrom13, AnsweredFrom10, listCall, CallAnswered}
 use Rattle.mac.specs.Inner.Verdict.{CheckOf}
 use Rattle.mac.specs.declared.extent.Extent.{Extent}
 use Rattle.mac.specs.declared.modes.SignatureItem.the-variants as signatureItem
-use Rattle.mac.proofs.ListedElements.{never-met}
 use Rattle.mac.specs.declared.verdict.Checked.{Checked}
 use Rattle.mac.proofs.CallSteps.{call-refused, call-fault, call-read}
 use Rattle.mac.proofs.CheckSteps.{call-streamed, call-room, call-checked}
@@ -44,13 +41,13 @@ module _ (l d : List ℕ) (bad : Bool) (out : List ℕ) where
     abbrev f : Answer
     f = listAnswer l
 
-    -- the content of the call, and its end of the order
+    -- the call's end of the order
     abbrev last : Elements → Option (List ℕ) → Answer
-    last es expected = answerFrom13 (tagsIn l) es (contentWritesUN (content (tagsIn l) (tree d) d)) (listedStream (tagsIn l) es d) (length out) expected
+    last es expected = answerFrom13 (tagsIn l) es (listedStream (tagsIn l) es d) (length out) expected
 
     -- after 1
     on : (expected : Option (List ℕ)) → listCall l d out expected .answer ≡ (f orElse answerOf (dataSet d) orElse last (tree d) expected)
-    unfolding answer stream contentOf if_then_else_
+    unfolding answer stream if_then_else_
     on expected = rw (le-ltb sizeLimit (length d) h) (or-else-second (accepted 0) _ refl)
 
     list-refused : (f .number ≡ 0 → ⊥) → CallAnswered (listCall l d out) bad out f out
@@ -63,14 +60,14 @@ module _ (l d : List ℕ) (bad : Bool) (out : List ℕ) where
       -- the call, where the data set is read
       read-call : (es : Elements) (next : ℕ) → dataSet d ≡ read es next → (expected : Option (List ℕ))
           → _≡_ {A = Result}
-          (record { answer = answerFrom13 (tagsIn l) es (contentWritesUN (content (tagsIn l) (tree d) d)) (wholeStream (tagsIn l) es d signatureItem.Absent) (length out) expected; stream = wholeStream (tagsIn l) es d signatureItem.Absent; expected = expected })
+          (record { answer = answerFrom13 (tagsIn l) es (wholeStream (tagsIn l) es d signatureItem.Absent) (length out) expected; stream = wholeStream (tagsIn l) es d signatureItem.Absent; expected = expected })
           (listCall l d out expected)
       unfolding stream wholeStream
       read-call es next q expected =
           let s : wholeStream (tagsIn l) es d signatureItem.Absent ≡ listedStream (tagsIn l) es d = append-nil (listedStream (tagsIn l) es d) in
           let v : es ≡ tree d = sym (ap treeOf q) in
-          let a : answerFrom13 (tagsIn l) es (contentWritesUN (content (tagsIn l) (tree d) d)) (wholeStream (tagsIn l) es d signatureItem.Absent) (length out) expected ≡ listCall l d out expected .answer =
-          ap (λ (b : List ℕ). answerFrom13 (tagsIn l) es (contentWritesUN (content (tagsIn l) (tree d) d)) b (length out) expected) s ∙ ap (λ (b : Elements). last b expected) v
+          let a : answerFrom13 (tagsIn l) es (wholeStream (tagsIn l) es d signatureItem.Absent) (length out) expected ≡ listCall l d out expected .answer =
+          ap (λ (b : List ℕ). answerFrom13 (tagsIn l) es b (length out) expected) s ∙ ap (λ (b : Elements). last b expected) v
           ∙ sym (on expected ∙ or-else-second f _ k ∙ or-else-second (answerOf (dataSet d)) _ (ap (λ (p : Reading Elements). answerOf p .number) q)) in
           let b : wholeStream (tagsIn l) es d signatureItem.Absent ≡ listedStream (tagsIn l) (tree d) d = s ∙ ap (λ (c : Elements). listedStream (tagsIn l) c d) v in
           ap₂ (λ (y : Answer) (z : List ℕ). record { answer = y; stream = z; expected = expected }) a b
@@ -81,8 +78,7 @@ module _ (l d : List ℕ) (bad : Bool) (out : List ℕ) where
           call-fault (listCall l d out) l d x signatureItem.Absent bad out r ys t g (whole ∙ q) n
           (λ expected. sym (on expected ∙ or-else-second f _ k ∙ rw q (or-else-first g _ n)))
       by (read es next) q =
-          call-read (listCall l d out) l d x signatureItem.Absent bad out r ys t es next (contentWritesUN (content (tagsIn l) (tree d) d)) (whole ∙ q) h
-          (λ z. never-met (tagsIn l) (tree d) d (subst (λ (v : Elements). tagsAnswer 0 (tagsIn l) v .number ≡ 0) (sym (ap treeOf q)) z)) (read-call es next q)
+          call-read (listCall l d out) l d x signatureItem.Absent bad out r ys t es next (whole ∙ q) h (read-call es next q)
 
     pub list-call : (x : Extent) → x ≡ wholeOf (length d) → (r : Answer) (ys : List ℕ) → AnsweredFrom10 l d x signatureItem.Absent bad out r ys → CallAnswered (listCall l d out) bad out r ys
     list-call x w r ys t = go (eqb (f .number) 0) refl

@@ -25,7 +25,7 @@ use Rattle.mac.specs.declared.writer.OneWritten.{OneWritten}
 use Rattle.mac.specs.declared.writer.OneWritten.the-variants as one
 use Rattle.mac.proofs.ElementsLoop.{Loop, loop-start, loop-refused, loop-end, loop-less, found-here, loop-again}
 use Rattle.mac.proofs.Walks.{Front}
-use Rattle.mac.proofs.OwnContent.{own-unbarred}
+use Rattle.mac.proofs.OwnElements.{own-element}
 
 -- ---- own_keep
 pub refused-keep : (seen : OneWritten) (f : Answer) → seen ≡ one.Refused f → keep.Nothing ≡ ownKeep seen
@@ -61,7 +61,7 @@ own-front d e next past c q = record { streams = λ es. go (leftOut e) refl es; 
   where
     go : (b : Bool) → leftOut e ≡ b → (es : Elements) → ownStream (and e es) d ≡ oneStream (keeps c) (element e) d ++ ownStream es d
     go true k es = rw (q, k)
-    go false k es = rw (q, k, own-unbarred e k, eq-eqb (tagOf e) (tagOf e) refl)
+    go false k es = rw (q, k, own-element e k .unbarred, eq-eqb (tagOf e) (tagOf e) refl)
 
 -- seen is what the first walk answers in an element's place, c what is kept, r what the second walk answers, and ys what it leaves
 module _ (d : List ℕ) (x : Extent) (xs₀ : List ℕ) (to₀ : ℕ) (xs : List ℕ) (at least to : ℕ) (c : Keep) (r : OneWritten) (ys : List ℕ)

@@ -21,7 +21,7 @@ use Rattle.mac.specs.Stream.{listedStream, elementsStream}
 use Rattle.mac.specs.Modes.{answerFrom13, badDigestLength}
 use Rattle.mac.specs.Result.{Result, Streamed, CheckedAs}
 use Rattle.mac.specs.Selection.{numberOf, refusal, selected, select}
-use Rattle.mac.specs.SignatureMode.{own, signatureWritesUN, streamBy, answerBy, stream, answer, result, streamCall, checkCall}
+use Rattle.mac.specs.SignatureMode.{own, streamBy, answerBy, stream, answer, result, streamCall, checkCall}
 use Rattle.mac.specs.Selection as mode
 use Rattle.mac.specs.Inner.Extent.{Lies, elementsIn, wholeOf}
 use Rattle.mac.specs.Inner.Own.{ownStream}
@@ -36,7 +36,7 @@ use Rattle.mac.specs.declared.signature_mode.Signature.{Signature}
 use Rattle.mac.specs.declared.verdict.Checked.{Checked}
 use Rattle.mac.proofs.CallSteps.{call-refused, call-read}
 use Rattle.mac.proofs.CheckSteps.{call-streamed, call-room, call-checked}
-use Rattle.mac.proofs.SignatureAnswers.{own-unmet, selected-number}
+use Rattle.mac.proofs.SelectionNumbers.{selected-number}
 
 -- ---- what is selected: the list from start to end, and the signature item in the extent `item`
 pub record Picked (uid : List ℕ) (number : ℕ) (d : List ℕ) (p : Reading Elements) (start end : ℕ) (item : Extent) : Type 0 where
@@ -161,12 +161,12 @@ module _ (uid : List ℕ) (which : Signature) (d : List ℕ) (bad : Bool) (out :
 
         same-call : (expected : Option (List ℕ))
             → _≡_ {A = Result}
-            (record { answer = answerFrom13 (tagsIn list) (g .elements) (signatureWritesUN list (g .parts) (g .elements) d) all (length out) expected; stream = all; expected = expected })
+            (record { answer = answerFrom13 (tagsIn list) (g .elements) all (length out) expected; stream = all; expected = expected })
             (call expected)
         unfolding answerBy stream
         same-call expected =
-            let a : answerFrom13 (tagsIn list) (g .elements) (signatureWritesUN list (g .parts) (g .elements) d) all (length out) expected ≡ call expected .answer =
-            ap (λ (b : List ℕ). answerFrom13 (tagsIn list) (g .elements) (signatureWritesUN list (g .parts) (g .elements) d) b (length out) expected) same-stream
+            let a : answerFrom13 (tagsIn list) (g .elements) all (length out) expected ≡ call expected .answer =
+            ap (λ (b : List ℕ). answerFrom13 (tagsIn list) (g .elements) b (length out) expected) same-stream
             ∙ sym (on-list expected ∙ or-else-second (listAnswer list) _ z) in
             let b : all ≡ call expected .stream =
             same-stream ∙ ap (λ (v : mode.Selection). streamBy v (g .elements) d) (sym (g .selects))
@@ -175,8 +175,7 @@ module _ (uid : List ℕ) (which : Signature) (d : List ℕ) (bad : Bool) (out :
 
         answer-from-13 : CallAnswered call bad out r ys
         answer-from-13 =
-            call-read call list d x (signatureItem.Item item) bad out r ys from13-for (g .elements) (g .next) (signatureWritesUN list (g .parts) (g .elements) d) (g .reads) h
-            (own-unmet list (g .parts) (g .elements) d) same-call
+            call-read call list d x (signatureItem.Item item) bad out r ys from13-for (g .elements) (g .next) (g .reads) h same-call
 
       pub signature-call : (r : Answer) (ys : List ℕ) → AnsweredFrom10 list d x (signatureItem.Item item) bad out r ys → CallAnswered call bad out r ys
       signature-call r ys v = go (eqb (listAnswer list .number) 0) refl

@@ -31,7 +31,7 @@ use Rattle.mac.specs.declared.modes.SignatureItem.the-variants as signat
 use Rattle.mac.specs.declared.writer.Written.{Written}
 use Rattle.mac.specs.declared.writer.Written.the-variants as written
 use Rattle.mac.proofs.OutputSteps.{sets-append}
-use Rattle.mac.proofs.OwnContent.{own-no-longer}
+use Rattle.mac.proofs.OwnElements.{own-no-longer}
 
 -- a fault of a data set in an extent has a number that is not 0
 pub fault-number : (d : List ℕ) (x : Extent) (f : Answer) → Lies d x → elementsIn d x ≡ fault f → (f .number ≡ 0 → ⊥)

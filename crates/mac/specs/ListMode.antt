@@ -14,7 +14,6 @@ use Rattle.dataset.specs.Reading.{sizeLimit, dataSet, answerOf, tree}
 use Rattle.mac.specs.TagList.{tagsIn, listAnswer}
 use Rattle.mac.specs.Content.{SignedElements, content}
 use Rattle.mac.specs.Stream.{listedStream}
-use Rattle.mac.specs.UN.{contentWritesUN}
 use Rattle.mac.specs.Modes.{answerFrom13}
 use Rattle.mac.specs.Result.{Result}
 
@@ -27,7 +26,7 @@ pub record Call : Type 0 where
   pub expected : Option (List ℕ)
 
 -- "A call's signed content is that of its list in its data set." It means something only where the data set is well-formed and holds every
--- listed tag; elsewhere a refusal comes before 17.
+-- listed tag; elsewhere the call is refused.
 unfoldable pub contentOf : Call → Option SignedElements
 contentOf c = content (tagsIn (c .list)) (tree (c .set)) (c .set)
 
@@ -35,14 +34,14 @@ contentOf c = content (tagsIn (c .list)) (tree (c .set)) (c .set)
 unfoldable pub stream : Call → List ℕ
 stream c = listedStream (tagsIn (c .list)) (tree (c .set)) (c .set)
 
--- "List mode: 1, 10, 11 over the whole list, 12 over the whole list, 2 to 8, then tag by tag 13, 14, 15; then 9, 16, 17."
+-- "List mode: 1, 10, 11 over the whole list, 12 over the whole list, 2 to 8, then tag by tag 13, 14, 15; then 9, 16".
 -- 1 stands in `dataSet` too; here it comes before the list.
 unfoldable pub answer : Call → Answer
 answer c =
     (if ltb sizeLimit (length (c .set)) then refused 1 0 else accepted 0)
     orElse listAnswer (c .list)
     orElse answerOf (dataSet (c .set))
-    orElse answerFrom13 (tagsIn (c .list)) (tree (c .set)) (contentWritesUN (contentOf c)) (stream c) (c .room) (c .expected)
+    orElse answerFrom13 (tagsIn (c .list)) (tree (c .set)) (stream c) (c .room) (c .expected)
 
 -- what the call comes to
 abbrev pub result : Call → Result

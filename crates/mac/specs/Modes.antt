@@ -1,4 +1,4 @@
--- What list mode and signature mode share: the end of the order, "then tag by tag 13, 14, 15; then 9, 16, 17".
+-- What list mode and signature mode share: the end of the order, "then tag by tag 13, 14, 15; then 9, 16".
 -- Assumes nothing.
 use Prim.Native.Nat.{ℕ, _+_}
 use mathlib.Core.Bool.{Bool, false, not}
@@ -29,12 +29,11 @@ abbrev pub badDigestLength : Option (List ℕ) → Bool
 badDigestLength Opt.none = false
 badDigestLength (some e) = not (eqb (length e) 32)
 
--- "then tag by tag 13, 14, 15; then 9, 16, 17", alike in both modes: the tags of the list, in a data set whose elements are es; whether UN
--- is met inside a sequence being written (17); the stream; the output room; the expected digest. 16: "output shorter than the stream".
-unfoldable pub answerFrom13 : (tags : List ℕ) → Elements → (metUN : Bool) (stream : List ℕ) (room : ℕ) (expected : Option (List ℕ)) → Answer
-answerFrom13 tags es metUN stream room expected =
+-- "then tag by tag 13, 14, 15; then 9, 16", alike in both modes: the tags of the list, in a data set whose elements are es; the stream; the
+-- output room; the expected digest. 16: "output shorter than the stream".
+unfoldable pub answerFrom13 : (tags : List ℕ) → Elements → (stream : List ℕ) (room : ℕ) (expected : Option (List ℕ)) → Answer
+answerFrom13 tags es stream room expected =
     tagsAnswer 0 tags es
     orElse (if badDigestLength expected then refused 9 0 else accepted 0)
     orElse (if ltb room (length stream) then refused 16 0 else accepted 0)
-    orElse (if metUN then refused 17 0 else accepted 0)
     orElse accepted (length stream)

@@ -14,9 +14,8 @@ use Rattle.answer.specs.Answer.{refused, _orElse_}
 use Rattle.dataset.specs.Tree.{Element, Elements, tagOf}
 use Rattle.dataset.specs.Reading.{dataSet, answerOf, tree}
 use Rattle.mac.specs.TagList.{barred, tagsIn, listAnswer}
-use Rattle.mac.specs.Content.{signedElements, content}
 use Rattle.mac.specs.Stream.{elementsStream, listedStream}
-use Rattle.mac.specs.UN.{isUN, holdsUN, sequencesWriteUN, contentWritesUN}
+use Rattle.mac.specs.UN.{isUN, holdsUN}
 use Rattle.mac.specs.Modes.{answerFrom13}
 use Rattle.mac.specs.Result.{Result}
 use Rattle.mac.specs.Selection.{Selection, refusal, selected, numberOf, select}
@@ -58,15 +57,11 @@ unfoldable pub streamBy : Selection → Elements → (d : List ℕ) → List ℕ
 streamBy (refusal number) es d = []
 streamBy (selected list item) es d = listedStream (tagsIn list) es d ++ elementsStream (own item) d
 
--- 17: UN inside a sequence of the listed elements or of the signature item's own
-unfoldable pub signatureWritesUN : (list : List ℕ) (item es : Elements) (d : List ℕ) → Bool
-signatureWritesUN list item es d = contentWritesUN (content (tagsIn list) es d) || sequencesWriteUN (signedElements (own item) d)
-
 -- "18 to 23, 10, 11, 12, and on as before"
 unfoldable pub answerBy : Selection → Elements → (d : List ℕ) (room : ℕ) (expected : Option (List ℕ)) → Answer
 answerBy (refusal number) es d room expected = refused number 0
 answerBy (selected list item) es d room expected =
-    listAnswer list orElse answerFrom13 (tagsIn list) es (signatureWritesUN list item es d) (streamBy (selected list item) es d) room expected
+    listAnswer list orElse answerFrom13 (tagsIn list) es (streamBy (selected list item) es d) room expected
 
 -- ---- a call
 

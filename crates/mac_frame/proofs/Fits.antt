@@ -16,7 +16,8 @@ use Rattle.mac.specs.TagList.{tagsIn}
 use Rattle.mac.specs.ListMode.{Call, answer, stream, result}
 use Rattle.mac.specs.Result.{isAccepted}
 use Rattle.mac.proofs.Slices.{length-between}
-use Rattle.mac_theorems.specs.Theorems.{inListMode, Positioned}
+use Rattle.mac_theorems.specs.Calls.{inListMode}
+use Rattle.mac_theorems.specs.Theorems.{Positioned}
 use Rattle.mac_theorems.proofs.Theorems as mac
 use Rattle.mac_theorems.proofs.Acceptance.{answer-accepted}
 use Rattle.mac_frame.specs.Text.{hex, isEmpty, lineEnd, hexFrom}
@@ -59,8 +60,8 @@ hex-most column [] h = omega arith
 hex-most column (b ∷ rest) h = hex-by column b rest h (hex-most ((column + 1) % 32) rest (omega arith)) (decLt column 31)
 
 -- ---- numbers of list mode
-answer-number : (c : Call) → answer c .number ≤ 17
-answer-number c = omega (arith, mac.theorems .numbers .most (inListMode c))
+answer-number : (c : Call) → answer c .number ≤ 16
+answer-number c = mac.theorems .numbers .most (inListMode c)
 
 -- ---- the first line
 tags-most : (l : List ℕ) → length (tagsIn l) ≤ length l
@@ -71,7 +72,7 @@ tags-most (a ∷ []) = omega arith
 tags-most (a ∷ b ∷ []) = omega arith
 tags-most (a ∷ b ∷ c ∷ []) = omega arith
 
-position-most : (size count : ℕ) (a : Answer) → a .number ≤ 17 → Positioned size count a → a .position ≤ size + count
+position-most : (size count : ℕ) (a : Answer) → a .number ≤ 16 → Positioned size count a → a .position ≤ size + count
 position-most size count a h p = go (decLt (a .number) 2) (decLt (a .number) 9) (decLt (a .number) 11) (decLt (a .number) 16)
   where
     go : Dec (a .number < 2) → Dec (a .number < 9) → Dec (a .number < 11) → Dec (a .number < 16) → a .position ≤ size + count

@@ -14,11 +14,9 @@ use Rattle.dataset.specs.Reading.{Reading, sizeLimit, dataSet, answerOf, treeOf
 use Rattle.dataset.proofs.Theorems.{faults-inside}
 use Rattle.dataset.proofs.Guarantees.{data-set-read}
 use Rattle.mac.specs.TagList.{tagsIn, listAnswer}
-use Rattle.mac.specs.UN.{contentWritesUN}
 use Rattle.mac.specs.Modes.{answerFrom13}
-use Rattle.mac.specs.ListMode.{Call, contentOf, stream, answer}
+use Rattle.mac.specs.ListMode.{Call, stream, answer}
 use Rattle.mac_theorems.specs.Demand3.{Accepted}
-use Rattle.mac.proofs.ListedElements.{never-met}
 use Rattle.mac.proofs.From13Answers.{From13Accepts, from13-accepts, from13-accepted}
 
 -- a data set that the reading does not refuse
@@ -51,12 +49,12 @@ accepts c h =
     record {
       list = list .first;
       read = is-read (c .set) (reading .first);
-      from13 = from13-accepts (tagsIn (c .list)) (tree (c .set)) (contentWritesUN (contentOf c)) (stream c) (c .room) (c .expected) (reading .second);
+      from13 = from13-accepts (tagsIn (c .list)) (tree (c .set)) (stream c) (c .room) (c .expected) (reading .second);
     }
 
 -- the answer of a call whose data set is read
 pub answer-read : (c : Call) → IsRead (c .set)
-    → answer c ≡ (listAnswer (c .list) orElse answerFrom13 (tagsIn (c .list)) (tree (c .set)) (contentWritesUN (contentOf c)) (stream c) (c .room) (c .expected))
+    → answer c ≡ (listAnswer (c .list) orElse answerFrom13 (tagsIn (c .list)) (tree (c .set)) (stream c) (c .room) (c .expected))
 unfolding answer if_then_else_
 answer-read c r =
     let d = data-set-read (c .set) (tree (c .set)) (r .next) (r .is) in
@@ -66,11 +64,10 @@ answer-read c r =
     )
 
 pub answer-accepts : (c : Call) → Accepts c → answer c ≡ accepted (length (stream c))
-unfolding contentOf
 answer-accepts c a =
     answer-read c (a .read)
     ∙ or-else-second _ _ (a .list)
-    ∙ from13-accepted (tagsIn (c .list)) (tree (c .set)) (contentWritesUN (contentOf c)) (stream c) (c .room) (c .expected) (a .from13) (never-met (tagsIn (c .list)) (tree (c .set)) (c .set) (a .from13 .found))
+    ∙ from13-accepted (tagsIn (c .list)) (tree (c .set)) (stream c) (c .room) (c .expected) (a .from13)
 
 -- an accepted call's answer
 pub answer-accepted : (c : Call) → Accepted c → answer c ≡ accepted (length (stream c))

@@ -23,11 +23,11 @@ use Rattle.dataset.proofs.Bounded.{explicit-bounded}
 use Rattle.dataset.proofs.Within.{Within, elements-within}
 use Rattle.dataset.proofs.Steps.{data-set-is, data-set-over}
 use Rattle.mac.specs.TagList.{tagsIn, barred, ascendingAnswer, unbarredAnswer, badSize, listAnswer}
-use Rattle.mac.specs.UN.{isUN, holdsUN, contentWritesUN}
+use Rattle.mac.specs.UN.{isUN, holdsUN}
 use Rattle.mac.specs.Modes.{elementAnswer, tagsAnswer, badDigestLength, answerFrom13}
-use Rattle.mac.specs.ListMode.{Call, contentOf, answer}
-use Rattle.mac.proofs.ListedElements.{never-met}
-use Rattle.mac_theorems.specs.Theorems.{EitherCall, inListMode, inSignatureMode, setOf, listOf, roomOf, resultOf, highest, Positioned}
+use Rattle.mac.specs.ListMode.{Call, answer}
+use Rattle.mac_theorems.specs.Calls.{EitherCall, inListMode, inSignatureMode, setOf, listOf, roomOf, resultOf}
+use Rattle.mac_theorems.specs.Theorems.{highest, Positioned}
 use Rattle.mac_theorems.proofs.SignatureStreamLength.{never-longer}
 
 -- of the number alone: 9 is given in a check only, 16 only where the output is shorter than the data set
@@ -138,15 +138,14 @@ module _ (c : EitherCall) where
   tags-regular index (tag ∷ tags) es h =
       or-else-regular _ _ (element-regular index (elementOf tag es) (omega arith)) λ z. tags-regular (index + 1) tags es (omega arith)
 
-  -- the end of the order, where the list is not refused; 17's test is false where none of 13, 14 and 15 holds
-  pub from13-regular : (es : Elements) (metUN : Bool) → (tagsAnswer 0 (tagsIn (listOf c)) es .number ≡ 0 → metUN ≡ false) → listAnswer (listOf c) .number ≡ 0
-      → Regular c (answerFrom13 (tagsIn (listOf c)) es metUN (resultOf c .stream) (roomOf c) (resultOf c .expected))
+  -- the end of the order, where the list is not refused
+  pub from13-regular : (es : Elements) → listAnswer (listOf c) .number ≡ 0
+      → Regular c (answerFrom13 (tagsIn (listOf c)) es (resultOf c .stream) (roomOf c) (resultOf c .expected))
   unfolding answerFrom13
-  from13-regular es metUN unmet h =
-      or-else-regular _ _ (tags-regular 0 (tagsIn (listOf c)) es (omega arith)) λ found.
+  from13-regular es h =
+      or-else-regular _ _ (tags-regular 0 (tagsIn (listOf c)) es (omega arith)) λ z.
       or-else-regular _ _ (test-regular (badDigestLength (resultOf c .expected)) _ _ of9 (accepted-regular 0)) λ z.
       or-else-regular _ _ (test-regular (ltb (roomOf c) (length (resultOf c .stream))) _ _ of16 (accepted-regular 0)) λ z.
-      or-else-regular _ _ (test-regular metUN _ _ (λ t. absurd (true≢false (sym t ∙ unmet found))) (accepted-regular 0)) λ z.
       accepted-regular (length (resultOf c .stream))
     where
       of9 : badDigestLength (resultOf c .expected) ≡ true → Regular c (refused 9 0)
@@ -187,12 +186,12 @@ module _ (c : EitherCall) where
 
 -- ---- list mode
 pub answer-regular : (c : Call) → Regular (inListMode c) (answer c)
-unfolding answer contentOf
+unfolding answer
 answer-regular c =
     or-else-regular k _ _ (size-regular k (ltb sizeLimit (length (c .set))) 1 (omega arith) (λ z. omega arith)) λ z.
     or-else-regular k _ _ (list-regular k) λ h.
     or-else-regular k _ _ (reading-regular k) λ z.
-    from13-regular k (tree (c .set)) (contentWritesUN (contentOf c)) (never-met (tagsIn (c .list)) (tree (c .set)) (c .set)) h
+    from13-regular k (tree (c .set)) h
   where
     k : EitherCall
     k = inListMode c

@@ -21,7 +21,6 @@ use Rattle.dataset.proofs.Theorems.{well-formed-accepted, accepted-well-formed}
 use Rattle.dataset.specs.Reading.{answerOf, tree}
 use Rattle.mac.specs.TagList.{tagsIn, listAnswer}
 use Rattle.mac.specs.Content.{SignedElements}
-use Rattle.mac.specs.UN.{contentWritesUN}
 use Rattle.mac.specs.Modes.{answerFrom13}
 use Rattle.mac.specs.Result.{compared, isAccepted, verdictOf}
 use Rattle.mac.specs.ListMode.{Call, contentOf, stream, answer, streamCall, result}
@@ -31,7 +30,7 @@ use Rattle.mac_theorems.specs.Demand3.{Accepted, signedInFragments, on, 
 use Rattle.mac_theorems.proofs.Encoding.{encodeElements}
 use Rattle.mac_theorems.proofs.Injective.{ElementsFit, injective}
 use Rattle.mac_theorems.proofs.Fitting.{WithinSize}
-use Rattle.mac.proofs.ListedElements.{HasContent, has-content}
+use Rattle.mac_theorems.proofs.ListedElements.{HasContent, has-content}
 use Rattle.mac_theorems.proofs.ListedContent.{listed-encoded, content-fits, same-tags, none-hold}
 use Rattle.mac_theorems.proofs.Answers.{answer-regular}
 use Rattle.mac_theorems.proofs.Outputs.{output-stream}
@@ -102,11 +101,11 @@ same-verdict c d a s =
 -- the end of the order
 same-tail : (c : Call) (d : List ℕ) (row : SignedElements) → contentOf c ≡ some row → contentOf (on c d) ≡ contentOf c → listedHoldUN (tagsIn (c .list)) (tree (c .set)) ≡ false
     → listedHoldUN (tagsIn (c .list)) (tree d) ≡ false → stream (on c d) ≡ stream c
-    → answerFrom13 (tagsIn (c .list)) (tree d) (contentWritesUN (contentOf (on c d))) (stream (on c d)) (c .room) (c .expected)
-    ≡ answerFrom13 (tagsIn (c .list)) (tree (c .set)) (contentWritesUN (contentOf c)) (stream c) (c .room) (c .expected)
+    → answerFrom13 (tagsIn (c .list)) (tree d) (stream (on c d)) (c .room) (c .expected)
+    ≡ answerFrom13 (tagsIn (c .list)) (tree (c .set)) (stream c) (c .room) (c .expected)
 unfolding answerFrom13 contentOf
 same-tail c d row is same m n streams =
-    rw (same-tags (tagsIn (c .list)) 0 (tree d) (tree (c .set)) d (c .set) row (same ∙ is) is n m, same, streams)
+    rw (same-tags (tagsIn (c .list)) 0 (tree d) (tree (c .set)) d (c .set) row (same ∙ is) is n m, streams)
 
 -- a content that is there
 record Row (o : Option SignedElements) : Type 0 where

@@ -11,14 +11,14 @@ use Rattle.dataset.specs.Lookup.{elementOf}
 use Rattle.mac.specs.TagList.{tagsIn, barred, badSize, ascendingAnswer, unbarredAnswer, listAnswer}
 use Rattle.mac.specs.Content.{fragmentBytes, signed, content}
 use Rattle.mac.specs.Stream.{fragmentsStream, streamOf, listedStream}
-use Rattle.mac.specs.UN.{holdsUN, writesUN, sequencesWriteUN}
+use Rattle.mac.specs.UN.{holdsUN}
 use Rattle.mac.specs.Modes.{elementAnswer, tagsAnswer, answerFrom13}
 use Rattle.mac.specs.Result.{outputAfter}
 use Rattle.mac.specs.ListMode.{contentOf, stream, answer}
 use Rattle.mac_theorems.specs.Examples.{examples, ExamplesHold, ContentsHold}
 
 pub examples-hold : ExamplesHold
-unfolding examples answer answerFrom13 outputAfter stream contentOf _orElse_ if_then_else_ listAnswer badSize ascendingAnswer unbarredAnswer barred tagsIn tagsAnswer elementAnswer holdsUN writesUN sequencesWriteUN content signed fragmentBytes listedStream streamOf fragmentsStream elementOf dataSet elementsAt elementsBy fragmentsBy byHeader byOne byItem byFragment elementAt vrOnAt byForm longAt badLength tooDeep undefinedBy definedBy valueBy itemAt itemBy endsAt closedBy formOf oneOf num16 num32 tagAt vrAt between
+unfolding examples answer answerFrom13 outputAfter stream _orElse_ if_then_else_ listAnswer badSize ascendingAnswer unbarredAnswer barred tagsIn tagsAnswer elementAnswer holdsUN listedStream streamOf fragmentsStream elementOf dataSet elementsAt elementsBy fragmentsBy byHeader byOne byItem byFragment elementAt vrOnAt byForm longAt badLength tooDeep undefinedBy definedBy valueBy itemAt itemBy endsAt closedBy formOf oneOf num16 num32 tagAt vrAt between
 examples-hold = refl
 
 pub contents-hold : ContentsHold

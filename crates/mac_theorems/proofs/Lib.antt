@@ -3,6 +3,7 @@ pub mod Encoding
 pub mod Injective
 pub mod Fitting
 pub mod FoundLies
+pub mod ListedElements
 pub mod ListedContent
 pub mod ListStreamLength
 pub mod ListInsertion
@@ -15,6 +16,7 @@ pub mod SignatureAcceptance
 pub mod SignatureStream
 pub mod Verdicts
 pub mod CheckAnswers
+pub mod Removed17
 pub mod Demand3
 pub mod Theorems
 pub mod Examples

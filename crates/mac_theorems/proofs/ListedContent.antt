@@ -5,21 +5,22 @@ use mathlib.Core.Bool.{false, true≢false}
 use mathlib.Core.List.{List, [], _∷_, _++_}
 use mathlib.Core.Option.{Option, some}
 use mathlib.Core.Option as Opt
+use lib.Dec.{eqb}
 use Rattle.answer.specs.Answer.{_orElse_}
-use Rattle.dataset.specs.Tree.{Element, Elements}
+use Rattle.dataset.specs.Vr.{SQ, OB, UN}
+use Rattle.dataset.specs.Tree.{Element, Elements, vrOf}
 use Rattle.dataset.proofs.Lies.{ElementsLie}
 use Rattle.dataset.specs.Lookup.{elementOf}
-use Rattle.mac.specs.Content.{SignedElements, signed, joined, content}
+use Rattle.mac.specs.Content.{SignedElement, SignedElements, signed, joined, content}
 use Rattle.mac.specs.Stream.{foundStream, listedStream}
-use Rattle.mac.specs.UN.{holdsUN}
+use Rattle.mac.specs.UN.{isUN, holdsUN}
 use Rattle.mac.specs.Modes.{elementAnswer, tagsAnswer}
 use Rattle.mac_theorems.specs.Demand3.{foundHoldsUN, listedHoldUN}
 use Rattle.dataset.proofs.Bools.{neither}
 use Rattle.mac_theorems.proofs.Encoding.{encodeElements, element-encoded}
 use Rattle.mac_theorems.proofs.Injective.{ElementsFit}
 use Rattle.mac_theorems.proofs.Fitting.{WithinSize, element-fits}
-use Rattle.mac.proofs.UN.{same-vr}
-use Rattle.mac.proofs.ListedElements.{tags-unrefused}
+use Rattle.mac_theorems.proofs.ListedElements.{tags-unrefused}
 use Rattle.mac_theorems.proofs.FoundLies.{found-at}
 
 -- a content is that of the first listed element and that of the others
@@ -56,6 +57,22 @@ module _ (d : List ℕ) (within : WithinSize d) (es : Elements) (left floor at n
       subst ElementsFit (j .is) (element-fits (j .element) d within left (f .from) (f .mid) (f .lies), content-fits tags (j .rest) (j .others))
 
 -- ---- the same content in another data set, with no UN inside a listed sequence in either: the same of 13, 14 and 15
+
+-- the VR stands in the signed content
+abbrev signedVr : SignedElement → ℕ
+signedVr (SignedElement.value tag vr bytes) = vr
+signedVr (SignedElement.sequence tag items) = SQ
+signedVr (SignedElement.fragments tag rows) = OB
+
+vr-signed : (e : Element) (d : List ℕ) → vrOf e ≡ signedVr (signed e d)
+unfolding signed
+vr-signed (Element.value at tag vr span) d = refl
+vr-signed (Element.sequence at tag span items) d = refl
+vr-signed (Element.fragments at tag span parts) d = refl
+
+-- so two elements with the same content are both UN or neither is
+same-vr : (e k : Element) (d s : List ℕ) → signed e d ≡ signed k s → isUN e ≡ isUN k
+same-vr e k d s h = ap (λ (v : ℕ). eqb v UN) (vr-signed e d ∙ ap signedVr h ∙ sym (vr-signed k s))
 
 -- of one tag: the elements that stand under it have the same content
 same-element : (i : ℕ) (e k : Element) (d s : List ℕ) → signed e d ≡ signed k s → holdsUN e ≡ false → holdsUN k ≡ false → elementAnswer i (some e) ≡ elementAnswer i (some k)

@@ -14,13 +14,12 @@ use Rattle.dataset.specs.Reading.{Reading, dataSet, answerOf, tree}
 use Rattle.mac.specs.TagList.{tagsIn, listAnswer}
 use Rattle.mac.specs.Result.{isAccepted}
 use Rattle.mac.specs.Selection.{selected, numberOf}
-use Rattle.mac.specs.SignatureMode.{signatureWritesUN, streamBy, answerBy, Call, selection, stream, answer, result}
+use Rattle.mac.specs.SignatureMode.{streamBy, answerBy, Call, selection, stream, answer, result}
 use Rattle.mac.proofs.From13Answers.{From13Accepts, from13-accepts, from13-accepted}
 use Rattle.mac_theorems.proofs.Acceptance.{IsRead, is-read}
 use Rattle.mac_theorems.proofs.Answers.{Regular, plain-regular, or-else-regular, list-regular, reading-regular, from13-regular}
 use Rattle.mac_theorems.proofs.SelectedItem.{select-holds}
-use Rattle.mac_theorems.specs.Theorems.{EitherCall, inSignatureMode}
-use Rattle.mac.proofs.SignatureAnswers.{own-unmet}
+use Rattle.mac_theorems.specs.Calls.{EitherCall, inSignatureMode}
 
 -- ---- every answer
 module _ (c : Call) where
@@ -37,7 +36,7 @@ module _ (c : Call) where
       (c .uid) (numberOf (c .which)) (tree (c .set)) (c .set)
       (λ item i list e.
       rw e at (or-else-regular k _ _ (list-regular k) λ h.
-      from13-regular k (tree (c .set)) (signatureWritesUN list item (tree (c .set)) (c .set)) (λ q. own-unmet list item (tree (c .set)) (c .set) (rw e at q)) h))
+      from13-regular k (tree (c .set)) h))
       refl
 
 -- ---- an accepted call
@@ -57,7 +56,7 @@ accepts c h =
     (c .uid) (numberOf (c .which)) (tree d) d
     (λ item i list e z.
     let l = both-accepted (listAnswer list) _ z in
-    let t = from13-accepts (tagsIn list) (tree d) (signatureWritesUN list item (tree d) d) (streamBy (selected list item) (tree d) d) (c .room) (c .expected) (l .second) in
+    let t = from13-accepts (tagsIn list) (tree d) (streamBy (selected list item) (tree d) d) (c .room) (c .expected) (l .second) in
     record { read = is-read d (r .first); list = list; item = item; selects = e; listed = l .first; from13 = rw e t })
     refl (r .second)
   where
@@ -67,12 +66,11 @@ accepts c h =
 accepted-answer : (c : Call) → Accepts c → answer c ≡ accepted (length (stream c))
 unfolding answer answerBy stream
 accepted-answer c a =
-    let u = own-unmet (a .list) (a .item) (tree (c .set)) (c .set) (a .from13 .found) in
     let t : From13Accepts (tagsIn (a .list)) (tree (c .set)) (streamBy (selected (a .list) (a .item)) (tree (c .set)) (c .set)) (c .room) (c .expected) = rw (a .selects) at (a .from13) in
     or-else-second _ _ (ap (λ (r : Reading Elements). answerOf r .number) (a .read .is))
     ∙ rw (a .selects) (
     or-else-second (listAnswer (a .list)) _ (a .listed)
-    ∙ from13-accepted (tagsIn (a .list)) (tree (c .set)) (signatureWritesUN (a .list) (a .item) (tree (c .set)) (c .set)) (streamBy (selected (a .list) (a .item)) (tree (c .set)) (c .set)) (c .room) (c .expected) t u
+    ∙ from13-accepted (tagsIn (a .list)) (tree (c .set)) (streamBy (selected (a .list) (a .item)) (tree (c .set)) (c .set)) (c .room) (c .expected) t
     )
 
 pub answer-accepted : (c : Call) → isAccepted (result c) ≡ true → answer c ≡ accepted (length (stream c))

@@ -8,16 +8,15 @@ use Rattle.dataset.specs.Header.{endsAt, closedBy, badLength, tooDeep, undefine
 use Rattle.dataset.specs.Reading.{byHeader, byOne, byItem, elementsBy, elementsAt, dataSet}
 use Rattle.dataset.specs.Lookup.{elementOf}
 use Rattle.mac.specs.TagList.{tagsIn, barred, badSize, ascendingAnswer, unbarredAnswer, listAnswer}
-use Rattle.mac.specs.Content.{signed, content}
 use Rattle.mac.specs.Stream.{streamOf, listedStream}
-use Rattle.mac.specs.UN.{writesUN, holdsUN, sequencesWriteUN}
+use Rattle.mac.specs.UN.{holdsUN}
 use Rattle.mac.specs.Modes.{elementAnswer, tagsAnswer, answerFrom13}
 use Rattle.mac.specs.Bytes.{sameBytes}
 use Rattle.mac.specs.Result.{outputAfter}
 use Rattle.mac.specs.Selection.{valueOf, firstItem, signatureItem, macIdOf, parametersItem, lessNul, badTransferSyntax, onlySpaces, isTerm, badAlgorithm, parametersSelect, select}
-use Rattle.mac.specs.SignatureMode.{named, leftOut, own, signatureWritesUN, streamBy, answerBy, stream, answer}
+use Rattle.mac.specs.SignatureMode.{named, leftOut, own, streamBy, answerBy, stream, answer}
 use Rattle.mac_theorems.specs.SignatureExamples.{examples, SignatureExamplesHold}
 
 pub signature-examples-hold : SignatureExamplesHold
-unfolding examples answer answerBy streamBy signatureWritesUN own leftOut named select parametersSelect badAlgorithm isTerm onlySpaces badTransferSyntax lessNul parametersItem macIdOf signatureItem firstItem valueOf sameBytes answerFrom13 outputAfter stream _orElse_ if_then_else_ listAnswer badSize ascendingAnswer unbarredAnswer barred tagsIn tagsAnswer elementAnswer holdsUN writesUN sequencesWriteUN content signed listedStream streamOf elementOf dataSet elementsAt elementsBy byHeader byOne byItem elementAt vrOnAt byForm longAt badLength tooDeep undefinedBy definedBy valueBy itemAt itemBy endsAt closedBy formOf oneOf num16 num32 tagAt vrAt between
+unfolding examples answer answerBy streamBy own leftOut named select parametersSelect badAlgorithm isTerm onlySpaces badTransferSyntax lessNul parametersItem macIdOf signatureItem firstItem valueOf sameBytes answerFrom13 outputAfter stream _orElse_ if_then_else_ listAnswer badSize ascendingAnswer unbarredAnswer barred tagsIn tagsAnswer elementAnswer holdsUN listedStream streamOf elementOf dataSet elementsAt elementsBy byHeader byOne byItem elementAt vrOnAt byForm longAt badLength tooDeep undefinedBy definedBy valueBy itemAt itemBy endsAt closedBy formOf oneOf num16 num32 tagAt vrAt between
 signature-examples-hold = refl

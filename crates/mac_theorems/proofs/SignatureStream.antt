@@ -6,9 +6,9 @@ use mathlib.Core.Bool.{Bool, true, false, true≢false}
 use mathlib.Core.List.{List, _++_}
 use mathlib.Core.Option.{Option}
 use native.Mathlib.Omega.{arith}
-use lib.Dec.{eqb, ltb}
+use lib.Dec.{ltb}
 use lib.ListN.{length, length-append}
-use borrow.Author.Tests.{eqb-true, eqb-false, lt-ltb, ltb-true}
+use borrow.Author.Tests.{lt-ltb, ltb-true}
 use Rattle.answer.specs.declared.Answer.{Answer}
 use Rattle.answer.specs.If.{if_then_else_}
 use Rattle.answer.specs.Answer.{accepted, refused, _orElse_}
@@ -19,18 +19,14 @@ use Rattle.dataset.specs.Lookup.{elementOf}
 use Rattle.mac.specs.TagList.{tagsIn, listAnswer}
 use Rattle.mac.specs.Stream.{elementsStream}
 use Rattle.mac.specs.Modes.{tagsAnswer, badDigestLength, answerFrom13}
-use Rattle.mac.specs.UN.{contentWritesUN}
 use Rattle.mac.specs.ListMode as listMode
 use Rattle.mac.specs.Selection.{signatureItem, select, numberOf, selected}
-use Rattle.mac.specs.SignatureMode.{own, signatureWritesUN, streamBy, answerBy, Call, selection, stream, answer}
-use Rattle.mac.proofs.ListedElements.{never-met}
-use Rattle.mac.proofs.SignatureAnswers.{own-unmet}
+use Rattle.mac.specs.SignatureMode.{own, streamBy, answerBy, Call, selection, stream, answer}
 use Rattle.mac_theorems.specs.Theorems.{asList, SignatureStream}
 use Rattle.mac_theorems.proofs.Acceptance.{IsRead, read-is, answer-read}
 
 -- ---- the end of the order, of a stream and of a longer one
-module _ (tags : List ℕ) (es : Elements) (some-met all-met : Bool) (first all : List ℕ) (room : ℕ) (expected : Option (List ℕ))
-    (unmet : tagsAnswer 0 tags es .number ≡ 0 → some-met ≡ false) (unmet′ : tagsAnswer 0 tags es .number ≡ 0 → all-met ≡ false) (l : length first ≤ length all) where
+module _ (tags : List ℕ) (es : Elements) (first all : List ℕ) (room : ℕ) (expected : Option (List ℕ)) (l : length first ≤ length all) where
   abbrev t : Answer
   t = tagsAnswer 0 tags es
 
@@ -46,34 +42,22 @@ module _ (tags : List ℕ) (es : Elements) (some-met all-met : Bool) (first all 
   room-again false true p q = or-else-second (accepted 0) _ refl ∙ sym (or-else-first (refused 16 0) _ (λ z. omega arith))
   room-again false false p q = refl
 
-  -- from 16 on, where none of 13, 14 and 15 is given
-  after : t .number ≡ 0
-      → (((if ltb room (length first) then refused 16 0 else accepted 0) orElse (if some-met then refused 17 0 else accepted 0) orElse accepted (length first)) orElse whole)
-      ≡ ((if ltb room (length all) then refused 16 0 else accepted 0) orElse (if all-met then refused 17 0 else accepted 0) orElse accepted (length all))
-  unfolding if_then_else_
-  after z =
+  -- from 16 on
+  after : (((if ltb room (length first) then refused 16 0 else accepted 0) orElse accepted (length first)) orElse whole)
+      ≡ ((if ltb room (length all) then refused 16 0 else accepted 0) orElse accepted (length all))
+  after =
       or-else-assoc (if ltb room (length first) then refused 16 0 else accepted 0) _ whole
-      ∙ ap (λ (x : Answer). (if ltb room (length first) then refused 16 0 else accepted 0) orElse x)
-      (or-else-assoc (if some-met then refused 17 0 else accepted 0) _ whole
-      ∙ rw (unmet z) (or-else-second (accepted 0) _ refl ∙ or-else-second (accepted (length first)) whole refl))
+      ∙ ap (λ (x : Answer). (if ltb room (length first) then refused 16 0 else accepted 0) orElse x) (or-else-second (accepted (length first)) whole refl)
       ∙ room-again (ltb room (length first)) (ltb room (length all)) refl refl
-      ∙ ap (λ (x : Answer). (if ltb room (length all) then refused 16 0 else accepted 0) orElse x) (sym (rw (unmet′ z) (or-else-second (accepted 0) _ refl)))
 
-  from13-more : answerFrom13 tags es all-met all room expected ≡ (answerFrom13 tags es some-met first room expected orElse whole)
+  from13-more : answerFrom13 tags es all room expected ≡ (answerFrom13 tags es first room expected orElse whole)
   unfolding answerFrom13
-  from13-more = go (eqb (t .number) 0) refl
+  from13-more =
+      ap (λ (x : Answer). t orElse digest orElse x) (sym after)
+      ∙ sym (or-else-assoc t _ whole ∙ ap (λ (x : Answer). t orElse x) (or-else-assoc digest _ whole))
     where
       digest : Answer
       digest = if badDigestLength expected then refused 9 0 else accepted 0
-
-      go : (b : Bool) → eqb (t .number) 0 ≡ b → answerFrom13 tags es all-met all room expected ≡ (answerFrom13 tags es some-met first room expected orElse whole)
-      go false e =
-          let n = eqb-false (t .number) 0 e in
-          or-else-first t _ n ∙ sym (or-else-assoc t _ whole ∙ or-else-first t _ n)
-      go true e =
-          let z = eqb-true (t .number) 0 e in
-          or-else-second t _ z
-          ∙ sym (or-else-assoc t _ whole ∙ or-else-second t _ z ∙ or-else-assoc digest _ whole ∙ ap (λ (x : Answer). digest orElse x) (after z))
 
 -- ---- a call that selects a list
 module _ (c : Call) (list : List ℕ) (item : Elements) (e : selection c ≡ selected list item) where
@@ -99,16 +83,14 @@ module _ (c : Call) (list : List ℕ) (item : Elements) (e : selection c ≡ sel
     read-number : answerOf (dataSet d) .number ≡ 0
     read-number = ap (λ (p : Reading Elements). answerOf p .number) (r .is)
 
-    signature-answer : answer c ≡ (listAnswer list orElse answerFrom13 (tagsIn list) es (signatureWritesUN list item es d) (stream c) (c .room) (c .expected))
+    signature-answer : answer c ≡ (listAnswer list orElse answerFrom13 (tagsIn list) es (stream c) (c .room) (c .expected))
     unfolding answer answerBy stream
     signature-answer = or-else-second (answerOf (dataSet d)) _ read-number ∙ rw e
 
     answers : answer c ≡ (listMode.answer (asList c list) orElse (if ltb (c .room) (length (stream c)) then refused 16 0 else accepted (length (stream c))))
-    unfolding listMode.contentOf
     answers =
         let n = ap length streams ∙ length-append (listMode.stream (asList c list)) (elementsStream (own item) d) in
-        let m = from13-more (tagsIn list) es (contentWritesUN (listMode.contentOf (asList c list))) (signatureWritesUN list item es d) (listMode.stream (asList c list)) (stream c) (c .room) (c .expected)
-        (never-met (tagsIn list) es d) (own-unmet list item es d) (omega (arith, n)) in
+        let m = from13-more (tagsIn list) es (listMode.stream (asList c list)) (stream c) (c .room) (c .expected) (omega (arith, n)) in
         signature-answer ∙ ap (λ (x : Answer). listAnswer list orElse x) m
         ∙ sym (ap (λ (x : Answer). x orElse whole-of) (answer-read (asList c list) r) ∙ or-else-assoc (listAnswer list) _ whole-of)
       where

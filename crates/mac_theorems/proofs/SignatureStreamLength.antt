@@ -8,11 +8,12 @@ use Rattle.dataset.specs.Reading.{dataSet, tree}
 use Rattle.mac.specs.TagList.{barred, tagsIn, listAnswer}
 use Rattle.mac.specs.Selection.{digitalSignaturesSequence, numberOf}
 use Rattle.mac.specs.SignatureMode.{streamBy, Call, selection, stream}
-use Rattle.mac_theorems.specs.Theorems.{inListMode, inSignatureMode, selectedList, NeverLonger}
+use Rattle.mac_theorems.specs.Calls.{inListMode, inSignatureMode, selectedList}
+use Rattle.mac_theorems.specs.Theorems.{NeverLonger}
 use Rattle.mac_theorems.proofs.ListStreamLength.{list-accepts, tree-no-longer, list-never-longer}
 use Rattle.mac_theorems.proofs.ListInsertion.{insert, insert-ascends, insert-length}
 use Rattle.mac_theorems.proofs.SelectedItem.{select-holds, item-no-longer}
-use Rattle.mac.proofs.OwnContent.{own-fewer}
+use Rattle.mac.proofs.OwnElements.{own-fewer}
 
 -- (FFFA,FFFA), were it listed too, would write all the elements of the signature item
 signature-never-longer : (c : Call) → listAnswer (selectedList (selection c)) .number ≡ 0 → length (stream c) ≤ length (c .set)

@@ -9,7 +9,9 @@ use Rattle.answer.specs.declared.Answer.{Answer}
 use Rattle.answer.specs.Answer.{accepted}
 use Rattle.mac.specs.Result.{isAccepted}
 use Rattle.mac.specs.ListMode as listMode
-use Rattle.mac_theorems.specs.Theorems.{EitherCall, inListMode, inSignatureMode, roomOf, resultOf, Never17, Numbers, Positions, AcceptedOutput, RefusedOutput, VerdictExact, EnoughRoom, Theorems}
+use Rattle.mac_theorems.specs.Calls.{EitherCall, inListMode, inSignatureMode, roomOf, resultOf}
+use Rattle.mac_theorems.specs.Removed17.{Without17}
+use Rattle.mac_theorems.specs.Theorems.{Numbers, Positions, AcceptedOutput, RefusedOutput, VerdictExact, EnoughRoom, Theorems}
 use Rattle.mac_theorems.proofs.Answers.{Regular, answer-regular}
 use Rattle.mac_theorems.proofs.Acceptance.{accepts, answer-accepted}
 use Rattle.mac_theorems.proofs.SignatureAcceptance as signed
@@ -18,6 +20,7 @@ use Rattle.mac_theorems.proofs.Verdicts.{says}
 use Rattle.mac_theorems.proofs.SignatureStream.{signature-stream}
 use Rattle.mac_theorems.proofs.CheckAnswers.{checks-as-stream}
 use Rattle.mac_theorems.proofs.SignatureStreamLength.{never-longer}
+use Rattle.mac_theorems.proofs.Removed17.{answers-same}
 
 -- ---- a call in either mode
 call-regular : (c : EitherCall) → Regular c (resultOf c .answer)
@@ -32,8 +35,8 @@ call-fits : (c : EitherCall) → isAccepted (resultOf c) ≡ true → length (re
 call-fits (inListMode c) h = ltb-false (c .room) (length (listMode.stream c)) (accepts c (eqb-true (listMode.answer c .number) 0 h) .from13 .fits)
 call-fits (inSignatureMode c) h = signed.answer-fits c h
 
-never-17 : Never17
-never-17 c = call-regular c .possible .never17
+without-17 : Without17
+without-17 = record { never = λ c z. call-regular c .possible .never17 (ap (λ (a : Answer). a .number) (answers-same c) ∙ z); same = answers-same }
 
 numbers : Numbers
 numbers = record { most = λ c. call-regular c .possible .most; of-stream = λ c e z. call-regular c .possible .of9 z e }
@@ -66,7 +69,7 @@ verdict-exact c e x = says (resultOf c) e x
 
 pub theorems : Theorems
 theorems = record {
-  never-17 = never-17;
+  without-17 = without-17;
   numbers = numbers;
   positions = positions;
   accepted-output = accepted-output;

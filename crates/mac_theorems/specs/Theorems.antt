@@ -5,7 +5,7 @@ use Prim.Native.Nat.{ℕ, _≤_, _<_}
 use mathlib.Core.Path.{_≡_}
 use mathlib.Core.Logic.{_↔_, _≢_}
 use mathlib.Core.Bool.{true, false}
-use mathlib.Core.List.{List, [], _++_}
+use mathlib.Core.List.{List, _++_}
 use mathlib.Core.Option.{some}
 use mathlib.Core.Option as Opt
 use lib.Dec.{ltb}
@@ -20,51 +20,22 @@ use Rattle.mac.specs.TagList.{tagsIn, listAnswer}
 use Rattle.mac.specs.Stream.{elementsStream}
 use Rattle.mac.specs.Result.{Result, isAccepted, outputAfter, verdictOf}
 use Rattle.mac.specs.ListMode as listMode
-use Rattle.mac.specs.Selection.{Selection, refusal, selected}
+use Rattle.mac.specs.Selection.{selected}
 use Rattle.mac.specs.SignatureMode.{own}
 use Rattle.mac.specs.SignatureMode as signatureMode
 use Rattle.mac.specs.declared.signature_mode.Signature.{Signature}
 use Rattle.mac.specs.declared.verdict.Verdict.the-variants as verdict
-
--- ---- a call in either mode: its data set, its list (empty where none is selected), its output room, and what it comes to
-
-pub data EitherCall : Type 0 where
-  inListMode : listMode.Call → EitherCall
-  inSignatureMode : signatureMode.Call → EitherCall
-
-abbrev pub setOf : EitherCall → List ℕ
-setOf (inListMode c) = c .set
-setOf (inSignatureMode c) = c .set
-
-abbrev pub selectedList : Selection → List ℕ
-selectedList (refusal number) = []
-selectedList (selected list item) = list
-
-abbrev pub listOf : EitherCall → List ℕ
-listOf (inListMode c) = c .list
-listOf (inSignatureMode c) = selectedList (signatureMode.selection c)
-
-abbrev pub roomOf : EitherCall → ℕ
-roomOf (inListMode c) = c .room
-roomOf (inSignatureMode c) = c .room
-
-abbrev pub resultOf : EitherCall → Result
-resultOf (inListMode c) = listMode.result c
-resultOf (inSignatureMode c) = signatureMode.result c
+use Rattle.mac_theorems.specs.Calls.{EitherCall, inListMode, inSignatureMode, setOf, listOf, roomOf, resultOf}
+use Rattle.mac_theorems.specs.Removed17.{Without17}
 
 -- ---- every answer
-
--- 17 cannot come: a UN that would be written inside a listed sequence makes 15 come before, and such sequences are left out of the
--- signature item's own.
-abbrev pub Never17 : Type 0
-Never17 = (c : EitherCall) → resultOf c .answer .number ≢ 17
 
 -- the highest number of either mode
 abbrev pub highest : EitherCall → ℕ
 highest (inListMode c) = 16
 highest (inSignatureMode c) = 23
 
--- the numbers that can come; 17 never does (`Never17`); 9 comes in a check only
+-- the numbers that can come; 9 comes in a check only
 pub record Numbers : Type 0 where
   pub most : (c : EitherCall) → resultOf c .answer .number ≤ highest c
   pub of-stream : (c : EitherCall) → resultOf c .expected ≡ Opt.none → resultOf c .answer .number ≢ 9
@@ -149,7 +120,7 @@ SignatureStream =
 
 -- all of them
 pub record Theorems : Type 0 where
-  pub never-17 : Never17
+  pub without-17 : Without17
   pub numbers : Numbers
   pub positions : Positions
   pub accepted-output : AcceptedOutput

@@ -2,7 +2,7 @@
 -- Assumes nothing.
 use Prim.Native.Nat.{ℕ, _+_, _≤_}
 use mathlib.Core.Path.{_≡_}
-use mathlib.Core.Bool.{Bool, false}
+use mathlib.Core.Bool.{Bool}
 use mathlib.Core.List.{List, [], _++_}
 use mathlib.Core.Option.{Option}
 use lib.ListN.{length}
@@ -63,13 +63,13 @@ pub record StreamWalk (list d : List ℕ) (x : Extent) (item : SignatureItem) (r
 
 -- ---- the end of the order
 
--- what is answered and left where the data set is read; `metUN` is any answer of 17's test that is no where none of 13, 14, 15 is given
+-- what is answered and left where the data set is read
 abbrev pub ReadFrom13 : (list d : List ℕ) → Elements → SignatureItem → (bad : Bool) (out : List ℕ) (r : Answer) (after : List ℕ) → Type 0
 ReadFrom13 list d es item bad out r after =
-    (metUN : Bool) → (tagsAnswer 0 (tagsIn list) es .number ≡ 0 → metUN ≡ false) → (expected : Option (List ℕ)) → badDigestLength expected ≡ bad
+    (expected : Option (List ℕ)) → badDigestLength expected ≡ bad
     → Streamed
     (record {
-      answer = answerFrom13 (tagsIn list) es metUN (wholeStream (tagsIn list) es d item) (length out) expected;
+      answer = answerFrom13 (tagsIn list) es (wholeStream (tagsIn list) es d item) (length out) expected;
       stream = wholeStream (tagsIn list) es d item;
       expected = expected;
     })

@@ -1,4 +1,4 @@
--- Signature mode: 17 is not given, and a refusal of the selection has a number from 18 on. Assumes nothing.
+-- A refusal of the selection has a number from 18 on. Assumes nothing.
 use Prim.Native.Nat.{ℕ, _≤_}
 use mathlib.Core.Path.{_≡_}
 use mathlib.Core.Logic.{_≢_}
@@ -11,20 +11,8 @@ use Rattle.answer.specs.If.{if_then_else_}
 use Rattle.dataset.specs.Vr.{AT, CS, UI}
 use Rattle.dataset.specs.Tree.{Elements}
 use Rattle.dataset.specs.Lookup.{elementOf}
-use Rattle.mac.specs.TagList.{tagsIn}
-use Rattle.mac.specs.Modes.{tagsAnswer}
 use Rattle.mac.specs.Selection.{macCalculationTransferSyntaxUid, macAlgorithm, dataElementsSigned, valueOf, need, Selection, refusal, selected, signatureItem, macIdOf, parametersItem, parametersSelect, select, badTransferSyntax, badAlgorithm}
-use Rattle.mac.specs.SignatureMode.{signatureWritesUN}
-use Rattle.mac.proofs.ListedElements.{never-met}
-use Rattle.mac.proofs.OwnContent.{own-never-met}
 
--- ---- 17 is not given
-
-pub own-unmet : (list : List ℕ) (item es : Elements) (d : List ℕ) → tagsAnswer 0 (tagsIn list) es .number ≡ 0 → signatureWritesUN list item es d ≡ false
-unfolding signatureWritesUN
-own-unmet list item es d h = rw (never-met (tagsIn list) es d h, own-never-met item d)
-
--- ---- a refusal of the selection has a number from 18 on
 abbrev pub Numbered : Selection → Type 0
 Numbered (refusal number) = 18 ≤ number
 Numbered (selected list item) = Unit {0}

@@ -1,4 +1,4 @@
--- The signature item's own elements: no UN stands in them, and their stream is never longer than the item. Assumes nothing.
+-- The signature item's own elements: none is barred, and their stream is never longer than the item. Assumes nothing.
 use Prim.Native.Nat.{ℕ, _-_, _≤_}
 use mathlib.Core.Path.{_≡_, refl}
 use mathlib.Core.Bool.{Bool, true, false, _||_}
@@ -9,35 +9,23 @@ use Rattle.answer.specs.If.{if_then_else_}
 use Rattle.dataset.specs.Tree.{Element, Elements, tagOf}
 use Rattle.dataset.proofs.Lies.{ElementsLie}
 use Rattle.mac.specs.TagList.{barred, unlessBarred}
-use Rattle.mac.specs.Content.{signedElements}
 use Rattle.mac.specs.Stream.{streamOf, elementsStream}
-use Rattle.mac.specs.UN.{isUN, holdsUN, sequencesWriteUN}
+use Rattle.mac.specs.UN.{isUN, holdsUN}
 use Rattle.mac.specs.SignatureMode.{named, leftOut, own}
 use Rattle.dataset.proofs.Bools.{neither}
-use Rattle.mac.proofs.UN.{none-met}
 use Rattle.mac.proofs.StreamLength.{elements-length}
 
 -- an element that is not left out
-module _ (e : Element) (h : leftOut e ≡ false) where
-  unnamed : (barred (tagOf e) || (isUN e || holdsUN e)) ≡ false
-  unfolding leftOut
-  unnamed = neither (named (tagOf e)) (barred (tagOf e) || (isUN e || holdsUN e)) h .1
+pub record Own (e : Element) : Type 0 where
+  pub unbarred : barred (tagOf e) ≡ false
+  pub clean : holdsUN e ≡ false
 
-  pub own-unbarred : barred (tagOf e) ≡ false
-  own-unbarred = neither (barred (tagOf e)) (isUN e || holdsUN e) unnamed .0
-
-  own-holds-none : holdsUN e ≡ false
-  own-holds-none = neither (isUN e) (holdsUN e) (neither (barred (tagOf e)) (isUN e || holdsUN e) unnamed .1) .1
-
-pub own-never-met : (es : Elements) (d : List ℕ) → sequencesWriteUN (signedElements (own es) d) ≡ false
-unfolding own signedElements sequencesWriteUN if_then_else_
-own-never-met Elements.none d = refl
-own-never-met (Elements.and e es) d = go (leftOut e) refl (own-never-met es d)
-  where
-    go : (b : Bool) → leftOut e ≡ b → sequencesWriteUN (signedElements (own es) d) ≡ false
-        → sequencesWriteUN (signedElements (if b then own es else Elements.and e (own es)) d) ≡ false
-    go true q k = k
-    go false q k = rw (own-unbarred e q) (none-met e d (signedElements (own es) d) (own-holds-none e q) k)
+pub own-element : (e : Element) → leftOut e ≡ false → Own e
+unfolding leftOut
+own-element e h =
+    let unnamed = neither (named (tagOf e)) (barred (tagOf e) || (isUN e || holdsUN e)) h .1 in
+    let unbarred = neither (barred (tagOf e)) (isUN e || holdsUN e) unnamed in
+    record { unbarred = unbarred .0; clean = neither (isUN e) (holdsUN e) (unbarred .1) .1 }
 
 pub own-fewer : (es : Elements) (d : List ℕ) → length (elementsStream (own es) d) ≤ length (elementsStream es d)
 unfolding own elementsStream if_then_else_

@@ -1,6 +1,6 @@
 -- The listed elements: what the tag by tag answer 13, 14, 15 leaves, and that they have a signed content. Assumes nothing.
 use Prim.Native.Nat.{ℕ, _+_}
-use mathlib.Core.Path.{_≡_, refl, ap, ap₂, _∙_}
+use mathlib.Core.Path.{_≡_, refl, ap₂}
 use mathlib.Core.Bool.{Bool, true, false}
 use mathlib.Core.List.{List, [], _∷_}
 use mathlib.Core.Option.{Option, some}
@@ -11,10 +11,9 @@ use Rattle.answer.specs.Answer.{accepted, refused}
 use Rattle.answer.proofs.Chain.{both-accepted}
 use Rattle.dataset.specs.Tree.{Element, Elements}
 use Rattle.dataset.specs.Lookup.{elementOf}
 use Rattle.mac.specs.Content.{SignedElements, signed, joined, content}
-use Rattle.mac.specs.UN.{isUN, holdsUN, sequencesWriteUN, contentWritesUN}
+use Rattle.mac.specs.UN.{isUN, holdsUN}
 use Rattle.mac.specs.Modes.{elementAnswer, tagsAnswer}
-use Rattle.mac.proofs.UN.{none-met}
 
 -- ---- none of 13, 14 and 15
 pub record Unrefused (o : Option Element) : Type 0 where
@@ -48,11 +47,10 @@ tags-unrefused i tag tags es h =
 pub record HasContent (tags : List ℕ) (es : Elements) (d : List ℕ) : Type 0 where
   pub row : SignedElements
   pub is : content tags es d ≡ some row
-  pub unmet : sequencesWriteUN row ≡ false
 
 pub has-content : (tags : List ℕ) (i : ℕ) (es : Elements) (d : List ℕ) → tagsAnswer i tags es .number ≡ 0 → HasContent tags es d
-unfolding content sequencesWriteUN
-has-content [] i es d h = record { row = SignedElements.none; is = refl; unmet = refl }
+unfolding content
+has-content [] i es d h = record { row = SignedElements.none; is = refl }
 has-content (tag ∷ tags) i es d h =
     let g = tags-unrefused i tag tags es h in
     let f = g .first in
@@ -60,9 +58,4 @@ has-content (tag ∷ tags) i es d h =
     record {
       row = SignedElements.and (signed (f .element) d) (r .row);
       is = ap₂ (λ (x : Option Element) (y : Option SignedElements). joined x y d) (f .is) (r .is);
-      unmet = none-met (f .element) d (r .row) (f .clean) (r .unmet);
     }
-
--- what the tag by tag answer leaves has no UN to meet
-pub never-met : (tags : List ℕ) (es : Elements) (d : List ℕ) → tagsAnswer 0 tags es .number ≡ 0 → contentWritesUN (content tags es d) ≡ false
-never-met tags es d h = let r = has-content tags 0 es d h in ap contentWritesUN (r .is) ∙ r .unmet

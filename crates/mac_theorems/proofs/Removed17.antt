@@ -1,0 +1,116 @@
+-- Number 17, the rule that was removed: no UN is met where none of 13, 14 and 15 is given, so that the orders with and without it give the
+-- same answers. Assumes nothing.
+use Prim.Native.Nat.{ℕ, _+_}
+use mathlib.Core.Path.{_≡_, refl, ap}
+use mathlib.Core.Bool.{Bool, true, false, _||_}
+use mathlib.Core.List.{List, [], _∷_}
+use mathlib.Core.Option.{Option, some}
+use mathlib.Core.Option as Opt
+use lib.Dec.{ltb}
+use lib.ListN.{length}
+use Rattle.answer.specs.If.{if_then_else_}
+use Rattle.answer.specs.declared.Answer.{Answer}
+use Rattle.answer.specs.Answer.{accepted, refused, _orElse_}
+use Rattle.answer.proofs.Chain.{or-else-same}
+use Rattle.dataset.specs.Tree.{Element, Elements, Items, tagOf}
+use Rattle.dataset.specs.Reading.{sizeLimit, dataSet, answerOf, tree}
+use Rattle.dataset.proofs.Bools.{neither}
+use Rattle.mac.specs.TagList.{barred, unlessBarred, tagsIn, listAnswer}
+use Rattle.mac.specs.Content.{SignedElement, SignedElements, signed, signedElements, signedItems, joined, content}
+use Rattle.mac.specs.UN.{isUN, holdsUN, elementsHoldUN, itemsHoldUN}
+use Rattle.mac.specs.Modes.{tagsAnswer, answerFrom13}
+use Rattle.mac.specs.ListMode as listMode
+use Rattle.mac.specs.Selection.{Selection, refusal, selected}
+use Rattle.mac.specs.SignatureMode.{leftOut, own, answerBy}
+use Rattle.mac.specs.SignatureMode as signatureMode
+use Rattle.mac.proofs.OwnElements.{own-element}
+use Rattle.mac_theorems.specs.Calls.{EitherCall, inListMode, inSignatureMode, resultOf}
+use Rattle.mac_theorems.specs.Removed17.{writesUN, elementsWriteUN, itemsWriteUN, sequencesWriteUN, contentWritesUN, signatureWritesUN, answerFrom13With17, listModeWith17, answerByWith17, signatureModeWith17, answerWith17}
+use Rattle.mac_theorems.proofs.ListedElements.{tags-unrefused}
+
+-- ---- UN in the tree and UN in the signed content: a sequence that holds none writes none
+both-false : {a b : Bool} → a ≡ false → b ≡ false → a || b ≡ false
+both-false h k = rw (h, k)
+
+unless-barred-writes : (b : Bool) (e : SignedElement) (rest : SignedElements) → writesUN e ≡ false → elementsWriteUN rest ≡ false
+    → elementsWriteUN (unlessBarred b (SignedElements.and e) rest) ≡ false
+unfolding elementsWriteUN
+unless-barred-writes true e rest h k = k
+unless-barred-writes false e rest h k = both-false h k
+
+mutual
+  unfolding signed holdsUN writesUN
+
+  element-writes : (e : Element) (d : List ℕ) → isUN e ≡ false → holdsUN e ≡ false → writesUN (signed e d) ≡ false
+  element-writes (Element.value at tag vr span) d k h = k
+  element-writes (Element.sequence at tag span items) d k h = items-write items d h
+  element-writes (Element.fragments at tag span parts) d k h = refl
+
+  elements-write : (es : Elements) (d : List ℕ) → elementsHoldUN es ≡ false → elementsWriteUN (signedElements es d) ≡ false
+  elements-write Elements.none d h = refl
+  elements-write (Elements.and e es) d h =
+      let k = neither (isUN e) (holdsUN e || elementsHoldUN es) h .1 in
+      unless-barred-writes (barred (tagOf e)) (signed e d) (signedElements es d)
+      (element-writes e d (neither (isUN e) (holdsUN e || elementsHoldUN es) h .0) (neither (holdsUN e) (elementsHoldUN es) k .0))
+      (elements-write es d (neither (holdsUN e) (elementsHoldUN es) k .1))
+
+  items-write : (is : Items) (d : List ℕ) → itemsHoldUN is ≡ false → itemsWriteUN (signedItems is d) ≡ false
+  items-write Items.last d h = refl
+  items-write (Items.item at es is) d h =
+      both-false (elements-write es d (neither (elementsHoldUN es) (itemsHoldUN is) h .0)) (items-write is d (neither (elementsHoldUN es) (itemsHoldUN is) h .1))
+
+-- one element more
+none-met : (e : Element) (d : List ℕ) (rest : SignedElements) → holdsUN e ≡ false → sequencesWriteUN rest ≡ false → sequencesWriteUN (SignedElements.and (signed e d) rest) ≡ false
+unfolding signed holdsUN sequencesWriteUN
+none-met (Element.value at tag vr span) d rest h k = k
+none-met (Element.sequence at tag span items) d rest h k = both-false (items-write items d h) k
+none-met (Element.fragments at tag span parts) d rest h k = k
+
+-- ---- no UN is met
+
+-- of the listed elements, where none of 13, 14 and 15 is given
+one-listed : (e : Element) (o : Option SignedElements) (d : List ℕ) → holdsUN e ≡ false → contentWritesUN o ≡ false → contentWritesUN (joined (some e) o d) ≡ false
+one-listed e Opt.none d h k = refl
+one-listed e (some row) d h k = none-met e d row h k
+
+listed-unmet : (tags : List ℕ) (i : ℕ) (es : Elements) (d : List ℕ) → tagsAnswer i tags es .number ≡ 0 → contentWritesUN (content tags es d) ≡ false
+unfolding content sequencesWriteUN
+listed-unmet [] i es d h = refl
+listed-unmet (tag ∷ tags) i es d h =
+    let g = tags-unrefused i tag tags es h in
+    rw (g .first .is) (one-listed (g .first .element) (content tags es d) d (g .first .clean) (listed-unmet tags (i + 1) es d (g .rest)))
+
+-- of the signature item's own
+own-unmet : (es : Elements) (d : List ℕ) → sequencesWriteUN (signedElements (own es) d) ≡ false
+unfolding own signedElements sequencesWriteUN if_then_else_
+own-unmet Elements.none d = refl
+own-unmet (Elements.and e es) d = go (leftOut e) refl (own-unmet es d)
+  where
+    go : (b : Bool) → leftOut e ≡ b → sequencesWriteUN (signedElements (own es) d) ≡ false
+        → sequencesWriteUN (signedElements (if b then own es else Elements.and e (own es)) d) ≡ false
+    go true q k = k
+    go false q k = let o = own-element e q in rw (o .unbarred) (none-met e d (signedElements (own es) d) (o .clean) k)
+
+signature-unmet : (list : List ℕ) (item es : Elements) (d : List ℕ) → tagsAnswer 0 (tagsIn list) es .number ≡ 0 → signatureWritesUN list item es d ≡ false
+unfolding signatureWritesUN
+signature-unmet list item es d h = both-false (listed-unmet (tagsIn list) 0 es d h) (own-unmet item d)
+
+-- ---- the orders without and with 17
+from13-same : (tags : List ℕ) (es : Elements) (metUN : Bool) (stream : List ℕ) (room : ℕ) (expected : Option (List ℕ)) → (tagsAnswer 0 tags es .number ≡ 0 → metUN ≡ false)
+    → answerFrom13 tags es stream room expected ≡ answerFrom13With17 tags es metUN stream room expected
+unfolding answerFrom13 answerFrom13With17 _orElse_ if_then_else_
+from13-same tags es metUN stream room expected unmet = or-else-same (tagsAnswer 0 tags es) _ _ λ h. rw (unmet h)
+
+by-same : (s : Selection) (es : Elements) (d : List ℕ) (room : ℕ) (expected : Option (List ℕ)) → answerBy s es d room expected ≡ answerByWith17 s es d room expected
+unfolding answerBy answerByWith17
+by-same (refusal number) es d room expected = refl
+by-same (selected list item) es d room expected =
+    ap (λ (a : Answer). listAnswer list orElse a) (from13-same (tagsIn list) es (signatureWritesUN list item es d) _ room expected (signature-unmet list item es d))
+
+pub answers-same : (c : EitherCall) → resultOf c .answer ≡ answerWith17 c
+unfolding listMode.answer listMode.contentOf listModeWith17 signatureMode.answer signatureModeWith17
+answers-same (inListMode c) =
+    ap (λ (a : Answer). (if ltb sizeLimit (length (c .set)) then refused 1 0 else accepted 0) orElse listAnswer (c .list) orElse answerOf (dataSet (c .set)) orElse a)
+    (from13-same (tagsIn (c .list)) (tree (c .set)) (contentWritesUN (listMode.contentOf c)) _ (c .room) (c .expected) (listed-unmet (tagsIn (c .list)) 0 (tree (c .set)) (c .set)))
+answers-same (inSignatureMode c) =
+    ap (λ (a : Answer). answerOf (dataSet (c .set)) orElse a) (by-same (signatureMode.selection c) (tree (c .set)) (c .set) (c .room) (c .expected))
