@@ -1,6 +1,6 @@
 //! An independent, literal implementation of the definition document, "01".
-//! Quotations in the comments are sentences of that document;
-//! "(a)" to "(l)" are the readings listed in README.md.
+//! Quotations in the comments are sentences of that document, as the change
+//! requests to it have them; "(a)" to "(l)" are the readings listed in README.md.
 
 #![forbid(unsafe_code)]
 

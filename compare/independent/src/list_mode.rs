@@ -16,7 +16,7 @@ pub fn check(data: &[u8], list: &[u8], expected: &[u8], room: usize) -> CheckAns
 }
 
 /// "List mode: 1, 10, 11 over the whole list, 12 over the whole list, 2 to 8,
-/// then tag by tag 13, 14, 15; then 9, 16, 17."
+/// then tag by tag 13, 14, 15; then 9, 16."
 fn run(
     data: &[u8],
     list: &[u8],
@@ -28,7 +28,7 @@ fn run(
     let data_set = read_checked_size(data)?; // 2 to 8
     let listed = listed_elements(&data_set, &tags)?; // 13, 14, 15
     check_expected(expected)?; // 9
-    write_all(&listed, room) // 16, 17
+    write_all(&listed, room) // 16
 }
 
 /// The listed elements in list order; "tag by tag 13, 14, 15".
@@ -64,7 +64,7 @@ pub(crate) fn check_expected(expected: Option<&[u8]>) -> Result<(), Refusal> {
     }
 }
 
-/// The streams of `elements`, one after the other; 16, then 17.
+/// The streams of `elements`, one after the other, or 16.
 pub(crate) fn write_all(elements: &[&Element], room: usize) -> Result<Vec<u8>, Refusal> {
     let mut writer = Writer::default();
     for element in elements {
@@ -74,5 +74,5 @@ pub(crate) fn write_all(elements: &[&Element], room: usize) -> Result<Vec<u8>, R
     if room < writer.length() {
         return Err(Refusal::plain(16));
     }
-    writer.finish() // 17
+    Ok(writer.finish())
 }

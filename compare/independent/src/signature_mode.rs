@@ -58,7 +58,7 @@ fn run(
     check_expected(expected)?; // 9
     // "After the listed elements come the signature item's own"
     elements.extend(signature_elements(signature));
-    write_all(&elements, room) // 16, 17
+    write_all(&elements, room) // 16
 }
 
 /// The items of a top level element of VR SQ.

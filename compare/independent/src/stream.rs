@@ -2,20 +2,12 @@
 
 use crate::reading::{Content, DataSet, Element};
 use crate::tag_list::is_barred;
-use crate::{Refusal, StreamAnswer};
 
 /// An item's "four tag bytes".
 const ITEM_TAG: [u8; 4] = [0xFE, 0xFF, 0x00, 0xE0];
 
 /// "then FE FF DD E0, present in the input or not".
 const SEQUENCE_DELIMITATION_TAG: [u8; 4] = [0xFE, 0xFF, 0xDD, 0xE0];
-
-/// The signed stream of one element, or 17.
-pub fn signed_stream(element: &Element) -> StreamAnswer {
-    let mut writer = Writer::default();
-    writer.write(element);
-    StreamAnswer::from_result(writer.finish())
-}
 
 /// "sequence with a UN element at any depth, even inside a barred element";
 /// a UN counts even where it is itself barred (i).
@@ -33,8 +25,6 @@ pub fn holds_unknown(element: &Element) -> bool {
 #[derive(Default)]
 pub(crate) struct Writer {
     stream: Vec<u8>,
-    /// A UN was met inside a sequence being written.
-    unknown_met: bool,
 }
 
 impl Writer {
@@ -77,16 +67,12 @@ impl Writer {
             if is_barred(element.tag) {
                 continue;
             }
-            self.unknown_met |= element.is_unknown();
             self.write(element);
         }
     }
 
-    /// "17 | UN met inside a sequence being written (position 0)".
-    pub(crate) fn finish(self) -> Result<Vec<u8>, Refusal> {
-        if self.unknown_met {
-            return Err(Refusal::plain(17));
-        }
-        Ok(self.stream)
+    /// The stream written.
+    pub(crate) fn finish(self) -> Vec<u8> {
+        self.stream
     }
 }

@@ -1,11 +1,10 @@
-//! The numbers 9 and 13 to 17 in list mode, each with its accepted neighbour,
+//! The numbers 9 and 13 to 16 in list mode, each with its accepted neighbour,
 //! their order, and the reading (i).
 
 mod common;
 use common::*;
-use independent::reading::read;
 use independent::sha256::sha256;
-use independent::{list_mode, stream, Verdict};
+use independent::{list_mode, Verdict};
 
 fn said(data: &[u8], list: &[u8]) -> (u32, usize) {
     let answer = list_mode::stream(data, list, 1000);
@@ -42,16 +41,6 @@ fn number_15() {
     // UN's value and fragments are not looked into.
     let closed = open(PIXELS, "OB", &item(&unknown()));
     assert_eq!(said(&closed, &list(&[PIXELS])), GOOD);
-}
-
-#[test]
-fn number_17() {
-    // It is met only by the bare stream of an element: both modes say 15 or
-    // leave the sequence out before.
-    let holding = long(SQ, "SQ", &item(&unknown()));
-    let tree = read(&holding).data_set.unwrap();
-    let answer = stream::signed_stream(&tree.elements[0]);
-    assert_eq!((answer.number, answer.position, answer.length), (17, 0, 0));
 }
 
 #[test]
