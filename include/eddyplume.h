@@ -45,7 +45,7 @@ extern "C" {
  *   14  listed element has VR UN
  *   15  listed sequence holds an element of VR UN
  *   16  output or work buffer shorter than the stream (the data set's length is always enough)
- *   17  (not given)
+ *   17  (not used)
  *   18  no such signature
  *   19  the signature has no MAC ID Number
  *   20  no MAC parameters with that number

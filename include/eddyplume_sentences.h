@@ -20,7 +20,7 @@ static const char *const eddyplume_sentences[26] = {
     "An element that was signed has lost its type.",
     "A group of elements that was signed holds one that has lost its type.",
     "There is not enough room for the bytes to check.",
-    "This number is not given.",
+    "This number is not used.",
     "The study has no such signature.",
     "The signature does not say which parameters it was made with.",
     "The parameters of the signature are missing.",

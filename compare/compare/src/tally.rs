@@ -40,8 +40,8 @@ impl Function {
         }
     }
 
-    /// Everything that the function can say: 17 cannot occur, 24 is the
-    /// program's, and no message is long enough for 25 from `sha256`.
+    /// Everything that the function can say: 24 is the program's, and no
+    /// message is long enough for 25 from `sha256`.
     fn outcomes(self) -> Vec<Outcome> {
         let (numbers, said): (Vec<u64>, &[&'static str]) = match self {
             Function::ListStream => ((0..=8).chain(10..=16).collect(), &[]),
