@@ -19,7 +19,7 @@ pub or-else-first : (a b : Answer) → (a .number ≡ 0 → ⊥) → (a orElse b
 unfolding _orElse_ if_then_else_
 or-else-first a b h = rw (ne-eqb (a .number) 0 h)
 
--- where the first is accepted the seconds are the same
+-- the seconds need be the same only where the first is accepted
 pub or-else-same : (a b c : Answer) → (a .number ≡ 0 → b ≡ c) → (a orElse b) ≡ (a orElse c)
 unfolding _orElse_ if_then_else_
 or-else-same a b c h = go (eqb (a .number) 0) refl

@@ -1,4 +1,4 @@
--- The signature item's own elements: none is barred, and their stream is never longer than the item. Assumes nothing.
+-- The signature item's own elements: none is barred or holds UN, and their stream is never longer than the item. Assumes nothing.
 use Prim.Native.Nat.{ℕ, _-_, _≤_}
 use mathlib.Core.Path.{_≡_, refl}
 use mathlib.Core.Bool.{Bool, true, false, _||_}

@@ -35,7 +35,7 @@ abbrev pub highest : EitherCall → ℕ
 highest (inListMode c) = 16
 highest (inSignatureMode c) = 23
 
--- the numbers that can come; 9 comes in a check only
+-- no number is above the highest; 9 comes in a check only
 pub record Numbers : Type 0 where
   pub most : (c : EitherCall) → resultOf c .answer .number ≤ highest c
   pub of-stream : (c : EitherCall) → resultOf c .expected ≡ Opt.none → resultOf c .answer .number ≢ 9
