@@ -1,5 +1,6 @@
--- A rule that was removed: number 17, "UN met inside a sequence being written (position 0)", which stood at the end of both orders,
--- "then 9, 16, 17". Here it stands once more, with the orders as they were, and the theorem that every call answers the same without it.
+-- A rule of 01 that was removed (docs/changes/P10.md): number 17, "UN met inside a sequence being written (position 0)", at the end of both
+-- orders, "then 9, 16, 17". Here it stands once more, with the orders as they were, and the theorem that every call answers the same
+-- without it.
 -- Assumes nothing.
 use Prim.Native.Nat.{ℕ}
 use mathlib.Core.Path.{_≡_}
@@ -93,8 +94,8 @@ abbrev pub answerWith17 : EitherCall → Answer
 answerWith17 (inListMode c) = listModeWith17 c
 answerWith17 (inSignatureMode c) = signatureModeWith17 c
 
--- ---- the theorem: no call gave 17, since 15 and what the signature item leaves out always come first; and every call, for the stream or
--- for the check, accepted or refused, answers as it did
+-- ---- the theorem: no call gives 17, since 15 and what the signature item leaves out always come first; and every call, for the stream or
+-- for the check, accepted or refused, answers without the rule as with it
 pub record Without17 : Type 0 where
   pub never : (c : EitherCall) → answerWith17 c .number ≢ 17
   pub same : (c : EitherCall) → resultOf c .answer ≡ answerWith17 c
