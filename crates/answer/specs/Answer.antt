@@ -1,7 +1,7 @@
 -- The answer of a call: 01, "Numbers that come back". "An answer is a number, a position and a length." `Answer` is the struct of
 -- src/lib.rt.
 -- Assumes nothing.
-use Prim.Native.Nat.{ℕ}
+use Prim.Native.Nat.{ℕ, zero, suc}
 use lib.Dec.{eqb}
 use Rattle.answer.specs.If.{if_then_else_}
 use Rattle.answer.specs.declared.Answer.{Answer}
@@ -10,9 +10,14 @@ use Rattle.answer.specs.declared.Answer.{Answer}
 abbrev pub accepted : (length : ℕ) → Answer
 accepted length = record { number = 0; position = 0; length = length }
 
--- "A refusal has length 0"
+-- the position that goes with a number: "Number 0 has position 0."
+abbrev pub positionFor : (number position : ℕ) → ℕ
+positionFor zero position = 0
+positionFor (suc n) position = position
+
+-- "A refusal has length 0". 0 is no refusal: it gives what `accepted 0` is.
 abbrev pub refused : (number position : ℕ) → Answer
-refused number position = record { number = number; position = position; length = 0 }
+refused number position = record { number = number; position = positionFor number position; length = 0 }
 
 -- the first answer, or where it is accepted the second: refusals in their written order
 infixr 4 _orElse_

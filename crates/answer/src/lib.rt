@@ -21,10 +21,13 @@ impl Answer {
         }
     }
 
-    // A refusal by its number, which is not 0, and the position that goes with it.
+    // A refusal by its number, and the position that goes with it. 0 is no refusal: it gives what accepted(0) does.
     pub fn refused(number: u8, position: usize) -> Self
         ensures { λ r. ⌜ r ≡ Spec.refused number position ⌝ }
     {
+        if number == 0 {
+            return Self::accepted(0);
+        }
         Self {
             number,
             position,
