@@ -9,22 +9,19 @@ use native.Mathlib.Omega.{arith}
 use borrow.Author.Tests.{ltb-false, eqb-true, eqb-false}
 use lib.ListN.{length}
 use lib.Dec.{ltb, eqb}
+use Rattle.answer.specs.declared.Answer.{Answer}
 use Rattle.answer.specs.If.{if_then_else_}
 use Rattle.dataset.specs.Bytes.{num16, num32, tagAt, vrAt}
 use Rattle.dataset.specs.Vr.{formOf, oneOf, OB, SQ}
-use Rattle.dataset.specs.Header.{undefined, itemTag, itemDelimiter, sequenceDelimiter, outside, badLength, tooDeep, undefinedBy, definedBy, valueBy, longAt, byForm, vrOnAt, itemBy, endsAt, closedBy, elementAt, itemAt}
+use Rattle.dataset.specs.Header.{ElementHeader, ItemHeader, undefined, itemTag, itemDelimiter, sequenceDelimiter, outside, badLength, tooDeep, undefinedBy, definedBy, valueBy, longAt, byForm, vrOnAt, itemBy, endsAt, closedBy, elementAt, itemAt}
 use Rattle.dataset.specs.Order.{Tagged, Sized, ValueAt, NestAt, HeaderExtent, EndsIn}
 use Rattle.dataset.specs.declared.vr.Form.{Form}
 use Rattle.dataset.specs.declared.vr.Form.the-variants.{Short, Long, Neither}
-use Rattle.dataset.specs.declared.header.ElementHeader.{ElementHeader}
-use Rattle.dataset.specs.declared.header.ElementHeader.the-variants as element
-use Rattle.dataset.specs.declared.header.ItemHeader.{ItemHeader}
-use Rattle.dataset.specs.declared.header.ItemHeader.the-variants as item
 use Rattle.dataset.proofs.Bools.{choose, and-right, both, neither, not-false, not-true}
 
--- a refusal that a header gives
-abbrev pub Number : ℕ → Type 0
-Number n = (2 ≤ n) × (n ≤ 8)
+-- a refusal that a header at `at` gives
+abbrev pub FaultAt : (at : ℕ) → Answer → Type 0
+FaultAt at f = (2 ≤ f .number) × (f .number ≤ 8) × (f .position ≡ at) × (f .length ≡ 0)
 
 -- the end of an extent: "filled exactly", or closed by a delimiter
 pub record EndAt (d : List ℕ) (delimiter : ℕ) (delimited : Bool) (stop at next : ℕ) : Type 0 where
@@ -44,19 +41,19 @@ pub record ItemSpan (d : List ℕ) (stop at start end : ℕ) (delimited : Bool) 
   pub extent : HeaderExtent (num32 d (at + 4)) stop start end delimited
 
 abbrev pub ElementFacts : List ℕ → (delimited : Bool) (left stop at least : ℕ) → ElementHeader → Type 0
-ElementFacts d delimited left stop at least (element.Refused number) = Number number
-ElementFacts d delimited left stop at least (element.End next) = EndAt d itemDelimiter delimited stop at next
-ElementFacts d delimited left stop at least (element.Value tag vr start end) = (least ≤ tag) × ValueAt d stop at tag vr start end
-ElementFacts d delimited left stop at least (element.Sequence tag start end inner) =
+ElementFacts d delimited left stop at least (ElementHeader.refused f) = FaultAt at f
+ElementFacts d delimited left stop at least (ElementHeader.ends next) = EndAt d itemDelimiter delimited stop at next
+ElementFacts d delimited left stop at least (ElementHeader.value tag vr start end) = (least ≤ tag) × ValueAt d stop at tag vr start end
+ElementFacts d delimited left stop at least (ElementHeader.sequence tag start end inner) =
     (least ≤ tag) × NestAt d stop at tag SQ start × (start ≤ end) × (end ≤ stop) × (0 < left) × (stop ≤ length d)
     × HeaderExtent (num32 d (at + 8)) stop start end inner
-ElementFacts d delimited left stop at least (element.Fragments tag start) = (least ≤ tag) × NestAt d stop at tag OB start × (stop ≤ length d)
+ElementFacts d delimited left stop at least (ElementHeader.fragments tag start) = (least ≤ tag) × NestAt d stop at tag OB start × (stop ≤ length d)
     × (num32 d (at + 8) ≡ undefined)
 
 abbrev pub ItemFacts : List ℕ → (inSequence delimited : Bool) (stop at : ℕ) → ItemHeader → Type 0
-ItemFacts d inSequence delimited stop at (item.Refused number) = Number number
-ItemFacts d inSequence delimited stop at (item.End next) = EndAt d sequenceDelimiter delimited stop at next
-ItemFacts d inSequence delimited stop at (item.Item start end inner) = ItemSpan d stop at start end inner × (inSequence ≡ false → inner ≡ false)
+ItemFacts d inSequence delimited stop at (ItemHeader.refused f) = FaultAt at f
+ItemFacts d inSequence delimited stop at (ItemHeader.ends next) = EndAt d sequenceDelimiter delimited stop at next
+ItemFacts d inSequence delimited stop at (ItemHeader.item start end inner) = ItemSpan d stop at start end inner × (inSequence ≡ false → inner ≡ false)
 
 -- ---- the checks of a length and a value
 sized-long : (f : Form) (d : List ℕ) (at start n : ℕ) → f ≡ Long → Sized f d at start n → Sized Long d at start n
@@ -108,7 +105,7 @@ module _ (d : List ℕ) (delimited : Bool) (left stop at least : ℕ) (within : 
     counted : (k n : ℕ) → vr ≡ k → formOf k ≡ Long → Sized (formOf vr) d at start n → num32 d (at + 8) ≡ n
     counted k n e l s = sized-long (formOf vr) d at start n (ap formOf e ∙ l) s .2
 
-    value-facts : (len : ℕ) → Sized (formOf vr) d at start len → P (valueBy tag vr left stop start len)
+    value-facts : (len : ℕ) → Sized (formOf vr) d at start len → P (valueBy tag vr left stop at start len)
     unfolding valueBy undefinedBy definedBy P
     value-facts len s =
         choose P (badLength vr len) (λ e. omega arith) λ e1.
@@ -208,7 +205,7 @@ element-facts d delimited left stop at least =
 
 -- ---- an item or a fragment
 item-by-facts : (d : List ℕ) (inSequence delimited : Bool) (stop at len : ℕ) → num32 d (at + 4) ≡ len → tagAt d at ≡ itemTag → at + 8 ≤ stop
-    → ItemFacts d inSequence delimited stop at (itemBy inSequence stop (at + 8) len)
+    → ItemFacts d inSequence delimited stop at (itemBy inSequence stop at (at + 8) len)
 unfolding itemBy
 item-by-facts d inSequence delimited stop at len c t h =
     let P = ItemFacts d inSequence delimited stop at in

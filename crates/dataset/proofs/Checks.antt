@@ -7,14 +7,11 @@ use mathlib.Core.Bool.{Bool, true, false, not, _&&_, _||_}
 use lib.Dec.{ltb, eqb}
 use borrow.Author.Tests.{lt-ltb, le-ltb, eq-eqb, ne-eqb}
 use Rattle.answer.specs.If.{if_then_else_}
-use Rattle.dataset.specs.Header.{longAt, byForm, vrOnAt, valueBy, itemBy}
+use Rattle.dataset.specs.Header.{ElementHeader, ItemHeader, refusal, longAt, byForm, vrOnAt, valueBy, itemBy}
 use Rattle.dataset.specs.Bytes.{num16, num32, tagAt, vrAt}
 use Rattle.dataset.specs.Vr.{formOf}
 use Rattle.dataset.specs.declared.vr.Form.{Form}
 use Rattle.dataset.specs.declared.vr.Form.the-variants.{Short, Long, Neither}
-use Rattle.dataset.specs.declared.header.ElementHeader.{ElementHeader}
-use Rattle.dataset.specs.declared.header.ElementHeader.the-variants as element
-use Rattle.dataset.specs.declared.header.ItemHeader.{ItemHeader}
 
 pub took : {A : Type 0} (b : Bool) (x y z : A) → b ≡ true → z ≡ x → z ≡ (if b then x else y)
 unfolding if_then_else_
@@ -79,7 +76,7 @@ pub ruleset results = (flag, lt-of, le-of, eq-of, ne-of)
 
 -- ---- what follows the checks of a header is another function's; z is its result
 pub short-form : (d : List ℕ) (tag left stop at v len : ℕ) (f : Form) (z : ElementHeader) → v ≡ vrAt d at → f ≡ formOf v → f ≡ Short → len ≡ num16 d (at + 6)
-    → z ≡ valueBy tag v left stop (at + 8) len → z ≡ vrOnAt d tag left stop at
+    → z ≡ valueBy tag v left stop at (at + 8) len → z ≡ vrOnAt d tag left stop at
 unfolding vrOnAt byForm
 short-form d tag left stop at v len f z e q s l w = rw (← e, ← q, s, ← l) w
 
@@ -88,20 +85,21 @@ pub long-form : (d : List ℕ) (tag left stop at v : ℕ) (f : Form) (z : Elemen
 unfolding vrOnAt byForm
 long-form d tag left stop at v f z e q s w = rw (← e, ← q, s) w
 
-pub no-form : (d : List ℕ) (tag left stop at v : ℕ) (f : Form) → v ≡ vrAt d at → f ≡ formOf v → f ≡ Neither → element.Refused 5 ≡ vrOnAt d tag left stop at
+pub no-form : (d : List ℕ) (tag left stop at v : ℕ) (f : Form) (z : ElementHeader) → v ≡ vrAt d at → f ≡ formOf v → f ≡ Neither
+    → z ≡ ElementHeader.refused (refusal at 5) → z ≡ vrOnAt d tag left stop at
 unfolding vrOnAt byForm
-no-form d tag left stop at v f e q s = rw (← e, ← q, s)
+no-form d tag left stop at v f z e q s w = rw (← e, ← q, s) w
 
-pub long-value : (d : List ℕ) (at tag v left stop start len : ℕ) (z : ElementHeader) → len ≡ num32 d at
-    → z ≡ valueBy tag v left stop start len → z ≡ valueBy tag v left stop start (num32 d at)
-long-value d at tag v left stop start len z l w = rw (← l) w
+pub long-value : (d : List ℕ) (i tag v left stop at start len : ℕ) (z : ElementHeader) → len ≡ num32 d i
+    → z ≡ valueBy tag v left stop at start len → z ≡ valueBy tag v left stop at start (num32 d i)
+long-value d i tag v left stop at start len z l w = rw (← l) w
 
 pub tag-on : (d : List ℕ) (tag left stop at : ℕ) (z : ElementHeader) → tag ≡ tagAt d at → z ≡ vrOnAt d tag left stop at → z ≡ vrOnAt d (tagAt d at) left stop at
 tag-on d tag left stop at z e w = rw (← e) w
 
-pub item-on : (d : List ℕ) (inSequence : Bool) (stop start at len : ℕ) (z : ItemHeader) → len ≡ num32 d at → z ≡ itemBy inSequence stop start len
-    → z ≡ itemBy inSequence stop start (num32 d at)
-item-on d inSequence stop start at len z e w = rw (← e) w
+pub item-on : (d : List ℕ) (inSequence : Bool) (i stop at start len : ℕ) (z : ItemHeader) → len ≡ num32 d i → z ≡ itemBy inSequence stop at start len
+    → z ≡ itemBy inSequence stop at start (num32 d i)
+item-on d inSequence i stop at start len z e w = rw (← e) w
 
 pub ruleset handed = (long-value, tag-on, item-on)
 

@@ -8,13 +8,13 @@ use native.Mathlib.Omega.{arith}
 use lib.ListN.{length}
 use Rattle.dataset.specs.Bytes.{OfBytes}
 use Rattle.dataset.specs.Tree.{Span, Element, value, sequence, fragments, Elements, none, and, Items, last, item, tagOf}
-use Rattle.dataset.specs.Reading.{read, element, explicit, byHeader, byOne, byItem, byFragment, fragmentsAt, elementsAt, itemsAt, oneAt}
+use Rattle.dataset.specs.Reading.{read, element, explicit, byHeader, byOne, byItem, byFragment, fragmentsAt, elementsAt, itemsAt, oneAt, deeper}
 use Rattle.dataset.specs.Order.{FragmentsFill, ElementFills, ElementsFill, ItemsFill}
 use Rattle.dataset.specs.Theorems.{FilledIsRead}
 use Rattle.dataset.proofs.Bounded.{explicit-bounded}
 use Rattle.dataset.proofs.Unfolding.{elements-are, items-are, fragments-are}
 use Rattle.dataset.proofs.Steps.{data-set-is}
-use Rattle.dataset.proofs.OneSteps.{one-is}
+use Rattle.dataset.proofs.OneSteps.{one-by}
 use Rattle.dataset.proofs.Order.{extent-inside, parts-in, elements-in, items-in}
 use Rattle.dataset.proofs.FilledHeaders.{element-ends, value-stands, sequence-stands, fragments-stand, items-end, item-stands}
 
@@ -41,25 +41,25 @@ module _ (d : List ℕ) (b : OfBytes d) where
         → oneAt explicit d delimited left stop at least ≡ read (element e) next
     one-filled (value p tag vr s) delimited left stop at least next l o r =
         let q = value-stands d b delimited left stop at least tag l o vr (s .start) (s .end) (r .1) in
-        rw (one-is d delimited left stop at least _ q _ refl, r .0, r .2)
+        rw (one-by d delimited left stop at least _ q, r .0, r .2)
     one-filled (sequence p tag s is) delimited left stop at least next l o r =
         let x = extent-inside _ stop (s .start) (r .1) (r .0) (r .5) in
         let q = sequence-stands d b delimited left stop at least tag l o (s .start) (r .1) (r .0) (r .3) (r .4) (r .5) in
         let j = items-filled is (r .0) left (r .1) (s .start) next (omega arith) (r .6) in
         let u = r .7 in
-        rw (one-is d delimited left stop at least _ q _ refl, j, r .2, ← u)
+        rw (one-by d delimited left stop at least _ q, j, r .2, ← u)
     one-filled (fragments p tag s ss) delimited left stop at least next l o r =
         let q = fragments-stand d b delimited left stop at least tag l o (s .start) (r .1) (r .2) in
         let j = fragments-filled ss left stop (s .start) next l (r .3) in
         let u = r .4 in
-        rw (one-is d delimited left stop at least _ q _ refl, j, r .0, ← u)
+        rw (one-by d delimited left stop at least _ q, j, r .0, ← u)
 
     elements-filled : (es : Elements) (delimited : Bool) (left stop at least next : ℕ) → stop ≤ length d → ElementsFill es d delimited left stop at least next
         → elementsAt explicit d delimited left stop at least ≡ read es next
     elements-filled none delimited left stop at least next l r =
         let k = elements-in none d delimited left stop least at next l r in
         let q = element-ends d delimited left stop at least next l r in
-        rw (elements-are explicit explicit-bounded d delimited left stop at least (omega (arith, k .order, k .inside)), one-is d delimited left stop at least _ q _ refl)
+        rw (elements-are explicit explicit-bounded d delimited left stop at least (omega (arith, k .order, k .inside)), one-by d delimited left stop at least _ q)
     elements-filled (and e es) delimited left stop at least next l r =
         let k = elements-in (and e es) d delimited left stop least at next l r in
         let i = one-filled e delimited left stop at least (r .0) l (r .1) (r .2) in
@@ -75,9 +75,9 @@ module _ (d : List ℕ) (b : OfBytes d) where
     items-filled (item p es is) delimited left stop at next l r =
         let k = items-in (item p es is) d delimited left stop at next l r in
         let x = extent-inside _ stop (at + 8) (r .1) (r .0) (r .5) in
-        let m = elements-in es d (r .0) (left - 1) (r .1) 0 (at + 8) (r .2) (omega arith) (r .6) in
+        let m = elements-in es d (r .0) (deeper left) (r .1) 0 (at + 8) (r .2) (omega arith) (r .6) in
         let q = item-stands d true delimited stop at (r .1) (r .0) l (r .4) (omega (arith, m .order, m .inside)) (λ y. refl) (r .5) in
-        let i = elements-filled es (r .0) (left - 1) (r .1) (at + 8) 0 (r .2) (omega arith) (r .6) in
+        let i = elements-filled es (r .0) (deeper left) (r .1) (at + 8) 0 (r .2) (omega arith) (r .6) in
         let j = items-filled is delimited left stop (r .2) next l (r .7) in
         rw (items-are explicit explicit-bounded d delimited left stop at (omega (arith, k .order, k .inside)), ← q, i, j, r .3)
 

@@ -12,13 +12,10 @@ use lib.Dec.{ltb, eqb}
 use Rattle.answer.specs.If.{if_then_else_}
 use Rattle.dataset.specs.Bytes.{num16, num32, tagAt, OfBytes}
 use Rattle.dataset.specs.Vr.{formOf, OB, SQ}
-use Rattle.dataset.specs.Header.{undefined, itemTag, itemDelimiter, sequenceDelimiter, outside, endsAt, closedBy, badLength, tooDeep, undefinedBy, definedBy, valueBy, longAt, byForm, vrOnAt, elementAt, itemBy, itemAt}
+use Rattle.dataset.specs.Header.{ElementHeader, ItemHeader, refusal, undefined, itemTag, itemDelimiter, sequenceDelimiter, outside, endsAt, closedBy, badLength, tooDeep, undefinedBy, definedBy, valueBy, longAt, byForm, vrOnAt, elementAt, itemBy, itemAt}
 use Rattle.dataset.specs.Order.{Tagged, Sized, ValueAt, NestAt, HeaderExtent, EndsIn}
 use Rattle.dataset.specs.declared.vr.Form.{Form}
 use Rattle.dataset.specs.declared.vr.Form.the-variants.{Short, Long, Neither}
-use Rattle.dataset.specs.declared.header.ElementHeader.{ElementHeader}
-use Rattle.dataset.specs.declared.header.ElementHeader.the-variants as header
-use Rattle.dataset.specs.declared.header.ItemHeader.the-variants as place
 use Rattle.dataset.proofs.Bounds.{value-start, sq-long, ob-long}
 use Rattle.dataset.proofs.Checks.{took, skip, if-true, if-false, not-f, and-t, and-f, or-f}
 
@@ -84,9 +81,9 @@ module _ {A : Type 0} (bad : A) (end : ℕ → A) (rest : A) (d : List ℕ) (del
 
 -- ---- an element's header
 pub element-ends : (d : List ℕ) (delimited : Bool) (left stop at least next : ℕ) → stop ≤ length d → EndsIn d itemDelimiter delimited stop at next
-    → header.End next ≡ elementAt d delimited left stop at least
+    → ElementHeader.ends next ≡ elementAt d delimited left stop at least
 unfolding elementAt
-element-ends d delimited left stop at least next l h = ends (header.Refused 2) header.End _ d itemDelimiter stop at l delimited next h
+element-ends d delimited left stop at least next l h = ends (ElementHeader.refused (refusal at 2)) ElementHeader.ends _ d itemDelimiter stop at l delimited next h
 
 -- the checks up to the VR
 tag-passes : (d : List ℕ) (delimited : Bool) (left stop at least tag : ℕ) (z : ElementHeader) → OfBytes d → stop ≤ length d → at + 8 ≤ stop → Tagged d at tag
@@ -94,20 +91,20 @@ tag-passes : (d : List ℕ) (delimited : Bool) (left stop at least tag : ℕ) (z
 unfolding elementAt
 tag-passes d delimited left stop at least tag z b l h t o e =
     let s = t .stands in
-    goes-on (header.Refused 2) header.End _ d itemDelimiter stop at l delimited z h (no-delimiter d at b (t .group))
-    (skip (eqb (num16 d at) 0xFFFE) (header.Refused 3) _ z (ne-eqb (num16 d at) 0xFFFE (t .group))
-    (skip (ltb (tagAt d at) least) (header.Refused 4) _ z (le-ltb (tagAt d at) least (omega arith)) (rw (← s) e)))
+    goes-on (ElementHeader.refused (refusal at 2)) ElementHeader.ends _ d itemDelimiter stop at l delimited z h (no-delimiter d at b (t .group))
+    (skip (eqb (num16 d at) 0xFFFE) (ElementHeader.refused (refusal at 3)) _ z (ne-eqb (num16 d at) 0xFFFE (t .group))
+    (skip (ltb (tagAt d at) least) (ElementHeader.refused (refusal at 4)) _ z (le-ltb (tagAt d at) least (omega arith)) (rw (← s) e)))
 
 -- the checks from the VR to the length
 size-passes : (f : Form) (d : List ℕ) (tag vr left stop at start n : ℕ) (z : ElementHeader) → start ≤ stop → Sized f d at start n
-    → z ≡ valueBy tag vr left stop start n → z ≡ byForm f d tag vr left stop at
+    → z ≡ valueBy tag vr left stop at start n → z ≡ byForm f d tag vr left stop at
 unfolding byForm longAt
 size-passes Short d tag vr left stop at start n z h s e = let a = s .0 in let b = s .1 in rw (← a, b) e
 size-passes Long d tag vr left stop at start n z h s e =
     let a = s .0 in
     let b = s .2 in
-    skip (ltb (stop - at) 12) (header.Refused 2) _ z (le-ltb (stop - at) 12 (omega arith))
-    (skip (not (eqb (num16 d (at + 6)) 0)) (header.Refused 6) _ z (not-f (eqb (num16 d (at + 6)) 0) (eq-eqb (num16 d (at + 6)) 0 (s .1))) (rw (← a, b) e))
+    skip (ltb (stop - at) 12) (ElementHeader.refused (refusal at 2)) _ z (le-ltb (stop - at) 12 (omega arith))
+    (skip (not (eqb (num16 d (at + 6)) 0)) (ElementHeader.refused (refusal at 6)) _ z (not-f (eqb (num16 d (at + 6)) 0) (eq-eqb (num16 d (at + 6)) 0 (s .1))) (rw (← a, b) e))
 size-passes Neither d tag vr left stop at start n z h s e = absurd s
 
 -- "length odd, or FFFFFFFF on .., 7"
@@ -119,92 +116,92 @@ unfolding badLength
 even-good vr n h = if-false (eqb n undefined) _ (eqb (n % 2) 1) false (even-defined n h .0) (even-defined n h .1)
 
 -- the checks of a length and a value
-module _ (tag left stop start : ℕ) where
-  value-by : (vr n end : ℕ) → vr ≢ SQ → n % 2 ≡ 0 → start + n ≡ end → end ≤ stop → header.Value tag vr start end ≡ valueBy tag vr left stop start n
+module _ (tag left stop at start : ℕ) where
+  value-by : (vr n end : ℕ) → vr ≢ SQ → n % 2 ≡ 0 → start + n ≡ end → end ≤ stop → ElementHeader.value tag vr start end ≡ valueBy tag vr left stop at start n
   unfolding valueBy definedBy tooDeep
   value-by vr n end q v w i =
-      let z = header.Value tag vr start end in
-      skip (badLength vr n) (header.Refused 7) _ z (even-good vr n v)
-      (skip (eqb vr SQ && eqb left 0) (header.Refused 8) _ z (and-f (eqb vr SQ) (eqb left 0) (ne-eqb vr SQ q))
+      let z = ElementHeader.value tag vr start end in
+      skip (badLength vr n) (ElementHeader.refused (refusal at 7)) _ z (even-good vr n v)
+      (skip (eqb vr SQ && eqb left 0) (ElementHeader.refused (refusal at 8)) _ z (and-f (eqb vr SQ) (eqb left 0) (ne-eqb vr SQ q))
       (skip (eqb n undefined) _ _ z (even-defined n v .0)
-      (skip (ltb (stop - start) n) (header.Refused 2) _ z (le-ltb (stop - start) n (omega arith))
+      (skip (ltb (stop - start) n) (ElementHeader.refused (refusal at 2)) _ z (le-ltb (stop - start) n (omega arith))
       (skip (eqb vr SQ) _ _ z (ne-eqb vr SQ q) (rw w)))))
 
   sequence-by : (n end : ℕ) (inner : Bool) → 0 < left → start ≤ stop → HeaderExtent n stop start end inner
-      → header.Sequence tag start end inner ≡ valueBy tag SQ left stop start n
+      → ElementHeader.sequence tag start end inner ≡ valueBy tag SQ left stop at start n
   unfolding valueBy definedBy undefinedBy tooDeep badLength
   sequence-by n end true o i h =
-      let z = header.Sequence tag start end true in
+      let z = ElementHeader.sequence tag start end true in
       let e = h .1 in
-      skip (badLength SQ n) (header.Refused 7) _ z (if-true (eqb n undefined) _ _ false (eq-eqb n undefined (h .0)) refl)
-      (skip (eqb left 0) (header.Refused 8) _ z (ne-eqb left 0 λ x. omega arith)
+      skip (badLength SQ n) (ElementHeader.refused (refusal at 7)) _ z (if-true (eqb n undefined) _ _ false (eq-eqb n undefined (h .0)) refl)
+      (skip (eqb left 0) (ElementHeader.refused (refusal at 8)) _ z (ne-eqb left 0 λ x. omega arith)
       (took (eqb n undefined) _ _ z (eq-eqb n undefined (h .0)) (took true _ _ z refl (rw e))))
   sequence-by n end false o i h =
-      let z = header.Sequence tag start end false in
+      let z = ElementHeader.sequence tag start end false in
       let e = h .1 in
       let u = h .2 in
-      skip (badLength SQ n) (header.Refused 7) _ z (even-good SQ n (h .0))
-      (skip (eqb left 0) (header.Refused 8) _ z (ne-eqb left 0 λ x. omega arith)
+      skip (badLength SQ n) (ElementHeader.refused (refusal at 7)) _ z (even-good SQ n (h .0))
+      (skip (eqb left 0) (ElementHeader.refused (refusal at 8)) _ z (ne-eqb left 0 λ x. omega arith)
       (skip (eqb n undefined) _ _ z (even-defined n (h .0) .0)
-      (skip (ltb (stop - start) n) (header.Refused 2) _ z (le-ltb (stop - start) n (omega arith))
+      (skip (ltb (stop - start) n) (ElementHeader.refused (refusal at 2)) _ z (le-ltb (stop - start) n (omega arith))
       (took true _ _ z refl (rw e)))))
 
-  fragments-by : (n : ℕ) → n ≡ undefined → header.Fragments tag start ≡ valueBy tag OB left stop start n
+  fragments-by : (n : ℕ) → n ≡ undefined → ElementHeader.fragments tag start ≡ valueBy tag OB left stop at start n
   unfolding valueBy undefinedBy tooDeep badLength
   fragments-by n u =
-      let z = header.Fragments tag start in
-      skip (badLength OB n) (header.Refused 7) _ z (if-true (eqb n undefined) _ _ false (eq-eqb n undefined u) refl)
-      (skip false (header.Refused 8) _ z refl
+      let z = ElementHeader.fragments tag start in
+      skip (badLength OB n) (ElementHeader.refused (refusal at 7)) _ z (if-true (eqb n undefined) _ _ false (eq-eqb n undefined u) refl)
+      (skip false (ElementHeader.refused (refusal at 8)) _ z refl
       (took (eqb n undefined) _ _ z (eq-eqb n undefined u) (skip false _ _ z refl refl)))
 
 -- ---- what an element that fills its extent is answered
 module _ (d : List ℕ) (b : OfBytes d) (delimited : Bool) (left stop at least tag : ℕ) (l : stop ≤ length d) (o : least ≤ tag) where
-  pub value-stands : (vr start end : ℕ) → ValueAt d stop at tag vr start end → header.Value tag vr start end ≡ elementAt d delimited left stop at least
+  pub value-stands : (vr start end : ℕ) → ValueAt d stop at tag vr start end → ElementHeader.value tag vr start end ≡ elementAt d delimited left stop at least
   unfolding vrOnAt
   value-stands vr start end v =
       let n = v .letters in
       let k = value-start d stop at tag vr start end v in
-      tag-passes d delimited left stop at least tag (header.Value tag vr start end) b l (omega (arith, k, v .order, v .inside)) (v .tagged) o
+      tag-passes d delimited left stop at least tag (ElementHeader.value tag vr start end) b l (omega (arith, k, v .order, v .inside)) (v .tagged) o
       (rw (← n)
-      (size-passes (formOf vr) d tag vr left stop at start (end - start) (header.Value tag vr start end) (omega (arith, v .order, v .inside)) (v .form)
-      (value-by tag left stop start vr (end - start) end (v .plain) (v .even) (omega (arith, v .order)) (v .inside))))
+      (size-passes (formOf vr) d tag vr left stop at start (end - start) (ElementHeader.value tag vr start end) (omega (arith, v .order, v .inside)) (v .form)
+      (value-by tag left stop at start vr (end - start) end (v .plain) (v .even) (omega (arith, v .order)) (v .inside))))
 
   nest-passes : (vr start n : ℕ) (z : ElementHeader) → formOf vr ≡ Long → NestAt d stop at tag vr start → num32 d (at + 8) ≡ n
-      → z ≡ valueBy tag vr left stop start n → z ≡ elementAt d delimited left stop at least
+      → z ≡ valueBy tag vr left stop at start n → z ≡ elementAt d delimited left stop at least
   unfolding vrOnAt
   nest-passes vr start n z f v c e =
       tag-passes d delimited left stop at least tag z b l (omega (arith, v .starts, v .inside)) (v .tagged) o
       (rw (v .letters, f) (size-passes Long d tag vr left stop at start n z (v .inside) (v .starts, v .reserved, c) e))
 
   pub sequence-stands : (start end : ℕ) (inner : Bool) → NestAt d stop at tag SQ start → 0 < left → HeaderExtent (num32 d (at + 8)) stop start end inner
-      → header.Sequence tag start end inner ≡ elementAt d delimited left stop at least
+      → ElementHeader.sequence tag start end inner ≡ elementAt d delimited left stop at least
   sequence-stands start end inner v k h =
-      nest-passes SQ start (num32 d (at + 8)) _ sq-long v refl (sequence-by tag left stop start (num32 d (at + 8)) end inner k (v .inside) h)
+      nest-passes SQ start (num32 d (at + 8)) _ sq-long v refl (sequence-by tag left stop at start (num32 d (at + 8)) end inner k (v .inside) h)
 
   pub fragments-stand : (start : ℕ) → NestAt d stop at tag OB start → num32 d (at + 8) ≡ undefined
-      → header.Fragments tag start ≡ elementAt d delimited left stop at least
+      → ElementHeader.fragments tag start ≡ elementAt d delimited left stop at least
   fragments-stand start v u =
-      nest-passes OB start (num32 d (at + 8)) _ ob-long v refl (fragments-by tag left stop start (num32 d (at + 8)) u)
+      nest-passes OB start (num32 d (at + 8)) _ ob-long v refl (fragments-by tag left stop at start (num32 d (at + 8)) u)
 
 -- ---- an item's header
 pub items-end : (d : List ℕ) (inSequence delimited : Bool) (stop at next : ℕ) → stop ≤ length d → EndsIn d sequenceDelimiter delimited stop at next
-    → place.End next ≡ itemAt d inSequence delimited stop at
+    → ItemHeader.ends next ≡ itemAt d inSequence delimited stop at
 unfolding itemAt
-items-end d inSequence delimited stop at next l h = ends (place.Refused 2) place.End _ d sequenceDelimiter stop at l delimited next h
+items-end d inSequence delimited stop at next l h = ends (ItemHeader.refused (refusal at 2)) ItemHeader.ends _ d sequenceDelimiter stop at l delimited next h
 
-item-by : (inSequence : Bool) (n stop start end : ℕ) (inner : Bool) → (inner ≡ true → inSequence ≡ true) → start ≤ stop → HeaderExtent n stop start end inner
-    → place.Item start end inner ≡ itemBy inSequence stop start n
+item-by : (inSequence : Bool) (n stop at start end : ℕ) (inner : Bool) → (inner ≡ true → inSequence ≡ true) → start ≤ stop → HeaderExtent n stop start end inner
+    → ItemHeader.item start end inner ≡ itemBy inSequence stop at start n
 unfolding itemBy
-item-by inSequence n stop start end true q i h =
+item-by inSequence n stop at start end true q i h =
     let e = h .1 in
     took (eqb n undefined && inSequence) _ _ _ (and-t (eqb n undefined) inSequence (eq-eqb n undefined (h .0)) (q refl)) (rw e)
-item-by inSequence n stop start end false q i h =
-    let z = place.Item start end false in
+item-by inSequence n stop at start end false q i h =
+    let z = ItemHeader.item start end false in
     let e = h .1 in
     let u = h .2 in
     skip (eqb n undefined && inSequence) _ _ z (and-f (eqb n undefined) inSequence (even-defined n (h .0) .0))
-    (skip (eqb (n % 2) 1) (place.Refused 7) _ z (even-defined n (h .0) .1)
-    (skip (ltb (stop - start) n) (place.Refused 2) _ z (le-ltb (stop - start) n (omega arith)) (rw e)))
+    (skip (eqb (n % 2) 1) (ItemHeader.refused (refusal at 7)) _ z (even-defined n (h .0) .1)
+    (skip (ltb (stop - start) n) (ItemHeader.refused (refusal at 2)) _ z (le-ltb (stop - start) n (omega arith)) (rw e)))
 
 extent-starts : (n stop start end : ℕ) (inner : Bool) → HeaderExtent n stop start end inner → start ≤ end → start ≤ stop
 extent-starts n stop start end true h k = let e = h .1 in omega arith
@@ -212,11 +209,11 @@ extent-starts n stop start end false h k = let e = h .2 in omega arith
 
 pub item-stands : (d : List ℕ) (inSequence delimited : Bool) (stop at end : ℕ) (inner : Bool) → stop ≤ length d → tagAt d at ≡ itemTag → at + 8 ≤ end
     → (inner ≡ true → inSequence ≡ true) → HeaderExtent (num32 d (at + 4)) stop (at + 8) end inner
-    → place.Item (at + 8) end inner ≡ itemAt d inSequence delimited stop at
+    → ItemHeader.item (at + 8) end inner ≡ itemAt d inSequence delimited stop at
 unfolding itemAt
 item-stands d inSequence delimited stop at end inner l t k q h =
     let i = extent-starts (num32 d (at + 4)) stop (at + 8) end inner h k in
-    let z = place.Item (at + 8) end inner in
-    goes-on (place.Refused 2) place.End _ d sequenceDelimiter stop at l delimited z i (λ e. omega (arith, t, e))
-    (skip (not (eqb (tagAt d at) itemTag)) (place.Refused 3) _ z (not-f (eqb (tagAt d at) itemTag) (eq-eqb (tagAt d at) itemTag t))
-    (item-by inSequence (num32 d (at + 4)) stop (at + 8) end inner q i h))
+    let z = ItemHeader.item (at + 8) end inner in
+    goes-on (ItemHeader.refused (refusal at 2)) ItemHeader.ends _ d sequenceDelimiter stop at l delimited z i (λ e. omega (arith, t, e))
+    (skip (not (eqb (tagAt d at) itemTag)) (ItemHeader.refused (refusal at 3)) _ z (not-f (eqb (tagAt d at) itemTag) (eq-eqb (tagAt d at) itemTag t))
+    (item-by inSequence (num32 d (at + 4)) stop at (at + 8) end inner q i h))

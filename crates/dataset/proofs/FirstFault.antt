@@ -12,16 +12,12 @@ use borrow.Author.Tests.{ltb-true, ltb-false}
 use Rattle.answer.specs.declared.Answer.{Answer}
 use Rattle.dataset.specs.Bytes.{num16, num32, tagAt, vrAt}
 use Rattle.dataset.specs.Vr.{formOf}
-use Rattle.dataset.specs.Header.{closedBy, longAt, byForm, vrOnAt, elementAt, itemAt}
+use Rattle.dataset.specs.Header.{ElementHeader, ItemHeader, closedBy, longAt, byForm, vrOnAt, elementAt, itemAt}
 use Rattle.dataset.specs.Tree.{Span, Elements, Items, tagOf}
-use Rattle.dataset.specs.Reading.{Reading, fault, read, _>>=_, One, ended, element, explicit, refusal, byHeader, byOne, byItem, byFragment, fragmentsBy, elementsBy, itemsBy, elementsAt, sizeLimit, levels, dataSet}
+use Rattle.dataset.specs.Reading.{Reading, fault, read, _>>=_, One, ended, element, explicit, byHeader, byOne, byItem, byFragment, fragmentsBy, elementsBy, itemsBy, elementsAt, sizeLimit, levels, dataSet, deeper}
 use Rattle.dataset.specs.Theorems.{FirstFault}
 use Rattle.dataset.specs.declared.vr.Form.{Form}
 use Rattle.dataset.specs.declared.vr.Form.the-variants.{Short, Long, Neither}
-use Rattle.dataset.specs.declared.header.ElementHeader.{ElementHeader}
-use Rattle.dataset.specs.declared.header.ElementHeader.the-variants as header
-use Rattle.dataset.specs.declared.header.ItemHeader.{ItemHeader}
-use Rattle.dataset.specs.declared.header.ItemHeader.the-variants as place
 use Rattle.dataset.proofs.Bounded.{ElementHeaderIn, ItemHeaderIn, explicit-bounded}
 use Rattle.dataset.proofs.Guarantees.{Holds}
 use Rattle.dataset.proofs.Within.{Within, OneIn, fragments-within, elements-within, items-within, one-by-in}
@@ -62,26 +58,26 @@ within-holds lo hi (fault f) w = tt
 within-holds lo hi (read a n) w = w
 
 -- ---- one step, by what stands there: readers that agree where the reading is over
-module _ (till stop at : ℕ) (refuse : ℕ → Answer) where
+module _ (till stop at : ℕ) where
   fragment-step : (parts parts′ : ℕ → Reading (List Span)) (p : ItemHeader) → ItemHeaderIn stop at p
       → ((i : ℕ) → at < i → i ≤ stop → Over till (parts i) → parts′ i ≡ parts i)
-      → Over till (byFragment refuse parts p) → byFragment refuse parts′ p ≡ byFragment refuse parts p
+      → Over till (byFragment parts p) → byFragment parts′ p ≡ byFragment parts p
   unfolding byFragment
-  fragment-step parts parts′ (place.Refused number) h f s = refl
-  fragment-step parts parts′ (place.End next) h f s = refl
-  fragment-step parts parts′ (place.Item start end inner) h f s = first-agrees till (parts end) (parts′ end) _ (λ a n x. x) (f end (omega arith) (h .2)) s
+  fragment-step parts parts′ (ItemHeader.refused f₀) h f s = refl
+  fragment-step parts parts′ (ItemHeader.ends next) h f s = refl
+  fragment-step parts parts′ (ItemHeader.item start end inner) h f s = first-agrees till (parts end) (parts′ end) _ (λ a n x. x) (f end (omega arith) (h .2)) s
 
   header-step : (items items′ : Bool → ℕ → ℕ → Reading Items) (parts parts′ : ℕ → Reading (List Span)) (p : ElementHeader) → ElementHeaderIn stop at p
       → ((inner : Bool) (end i : ℕ) → at < i → i ≤ end → end ≤ stop → Over till (items inner end i) → items′ inner end i ≡ items inner end i)
       → ((i : ℕ) → at < i → i ≤ stop → Over till (parts i) → parts′ i ≡ parts i)
-      → Over till (byHeader refuse items parts at p) → byHeader refuse items′ parts′ at p ≡ byHeader refuse items parts at p
+      → Over till (byHeader items parts at p) → byHeader items′ parts′ at p ≡ byHeader items parts at p
   unfolding byHeader
-  header-step items items′ parts parts′ (header.Refused number) h f g s = refl
-  header-step items items′ parts parts′ (header.End next) h f g s = refl
-  header-step items items′ parts parts′ (header.Value tag vr start end) h f g s = refl
-  header-step items items′ parts parts′ (header.Sequence tag start end inner) h f g s =
+  header-step items items′ parts parts′ (ElementHeader.refused f₀) h f g s = refl
+  header-step items items′ parts parts′ (ElementHeader.ends next) h f g s = refl
+  header-step items items′ parts parts′ (ElementHeader.value tag vr start end) h f g s = refl
+  header-step items items′ parts parts′ (ElementHeader.sequence tag start end inner) h f g s =
       first-agrees till (items inner end start) (items′ inner end start) _ (λ a n x. x) (f inner end start (h .0) (h .1) (h .2)) s
-  header-step items items′ parts parts′ (header.Fragments tag start) h f g s =
+  header-step items items′ parts parts′ (ElementHeader.fragments tag start) h f g s =
       first-agrees till (parts start) (parts′ start) _ (λ a n x. x) (g start (h .0) (h .1)) s
 
   one-step : (elements elements′ : ℕ → ℕ → Reading Elements) (p q : Reading One) → OneIn at stop p
@@ -104,11 +100,11 @@ module _ (till stop at : ℕ) (refuse : ℕ → Answer) where
       → ((inner : Bool) (end i : ℕ) → at < i → i ≤ end → end ≤ stop
       → Within i end (elements inner end i) × (Over till (elements inner end i) → elements′ inner end i ≡ elements inner end i))
       → ((i : ℕ) → at < i → i ≤ stop → Within i stop (items i) × (Over till (items i) → items′ i ≡ items i))
-      → Over till (byItem refuse elements items at p) → byItem refuse elements′ items′ at p ≡ byItem refuse elements items at p
+      → Over till (byItem elements items at p) → byItem elements′ items′ at p ≡ byItem elements items at p
   unfolding byItem
-  item-step elements elements′ items items′ (place.Refused number) h f g s = refl
-  item-step elements elements′ items items′ (place.End next) h f g s = refl
-  item-step elements elements′ items items′ (place.Item start end inner) h f g s =
+  item-step elements elements′ items items′ (ItemHeader.refused f₀) h f g s = refl
+  item-step elements elements′ items items′ (ItemHeader.ends next) h f g s = refl
+  item-step elements elements′ items items′ (ItemHeader.item start end inner) h f g s =
       let k = f inner end start (h .0) (h .1) (h .2) in
       then-agrees till (λ a n. (start ≤ n) × (n ≤ end)) (elements inner end start) (elements′ inner end start) _ _
       (within-holds start end (elements inner end start) (k .0))
@@ -162,7 +158,7 @@ module _ (d e : List ℕ) (till : ℕ) (len : length e ≡ length d) (same : (i 
   fragments-agree (suc n) left stop at z l s =
       let h = over-from till at stop (fragmentsBy explicit (suc n) d left stop at) (fragments-within explicit explicit-bounded (suc n) d left stop at z l) s in
       rw (item-agrees false true stop at h)
-      (fragment-step till stop at (refusal at) _ _ (itemAt d false true stop at) (explicit-bounded .item-in d false true stop at)
+      (fragment-step till stop at _ _ (itemAt d false true stop at) (explicit-bounded .item-in d false true stop at)
       (λ i p q. fragments-agree n left stop i q (omega arith)) s)
 
   mutual
@@ -176,13 +172,13 @@ module _ (d e : List ℕ) (till : ℕ) (len : length e ≡ length d) (same : (i 
         let h = over-from till at stop (elementsBy explicit (suc n) d delimited left stop at least)
         (elements-within explicit explicit-bounded (suc n) d delimited left stop at least z l) s in
         rw (element-agrees delimited left stop at least h)
-        (one-step till stop at (refusal at) (elementsBy explicit n d delimited left stop) (elementsBy explicit n e delimited left stop) _ _
+        (one-step till stop at (elementsBy explicit n d delimited left stop) (elementsBy explicit n e delimited left stop) _ _
         (one-by-in explicit explicit-bounded n d delimited left stop at least z (omega arith))
         (λ i above p q. (
           elements-within explicit explicit-bounded n d delimited left stop i above q (omega arith),
           λ x. elements-agree n delimited left stop i above q (omega arith) x,
         ))
-        (header-step till stop at (refusal at) _ _ _ _ (elementAt d delimited left stop at least) (explicit-bounded .element-in d delimited left stop at least)
+        (header-step till stop at _ _ _ _ (elementAt d delimited left stop at least) (explicit-bounded .element-in d delimited left stop at least)
         (λ inner end i p q r x. items-agree n inner left end i q (omega arith) x)
         (λ i p q. fragments-agree n left stop i q (omega arith)))
         s)
@@ -195,10 +191,10 @@ module _ (d e : List ℕ) (till : ℕ) (len : length e ≡ length d) (same : (i 
         let h = over-from till at stop (itemsBy explicit (suc n) d delimited left stop at)
         (items-within explicit explicit-bounded (suc n) d delimited left stop at z l) s in
         rw (item-agrees true delimited stop at h)
-        (item-step till stop at (refusal at) _ _ _ _ (itemAt d true delimited stop at) (explicit-bounded .item-in d true delimited stop at)
+        (item-step till stop at _ _ _ _ (itemAt d true delimited stop at) (explicit-bounded .item-in d true delimited stop at)
         (λ inner end i p q r. (
-          elements-within explicit explicit-bounded n d inner (left - 1) end i 0 q (omega arith),
-          λ x. elements-agree n inner (left - 1) end i 0 q (omega arith) x,
+          elements-within explicit explicit-bounded n d inner (deeper left) end i 0 q (omega arith),
+          λ x. elements-agree n inner (deeper left) end i 0 q (omega arith) x,
         ))
         (λ i p q. (
           items-within explicit explicit-bounded n d delimited left stop i q (omega arith),

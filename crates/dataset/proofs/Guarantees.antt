@@ -9,15 +9,11 @@ use lib.Dec.{ltb}
 use borrow.Author.Tests.{ltb-false, ltb-true}
 use Rattle.answer.specs.declared.Answer.{Answer}
 use Rattle.dataset.specs.Bytes.{num32}
-use Rattle.dataset.specs.Header.{itemDelimiter, elementAt, itemAt}
+use Rattle.dataset.specs.Header.{ElementHeader, ItemHeader, itemDelimiter, elementAt, itemAt}
 use Rattle.dataset.specs.Tree.{Span, Elements, Items, tagOf}
 use Rattle.dataset.specs.Order.{HeaderExtent, EndsIn, FragmentsFill, ElementFills, ElementsFill, ItemsFill}
 use Rattle.dataset.proofs.Lies.{ElementsLie}
-use Rattle.dataset.specs.Reading.{Reading, fault, read, _>>=_, One, ended, element, explicit, refusal, byHeader, byOne, byItem, byFragment, fragmentsBy, elementsBy, itemsBy, fragmentsAt, elementsAt, itemsAt, oneAt, sizeLimit, levels, dataSet}
-use Rattle.dataset.specs.declared.header.ElementHeader.{ElementHeader}
-use Rattle.dataset.specs.declared.header.ElementHeader.the-variants as header
-use Rattle.dataset.specs.declared.header.ItemHeader.{ItemHeader}
-use Rattle.dataset.specs.declared.header.ItemHeader.the-variants as place
+use Rattle.dataset.specs.Reading.{Reading, fault, read, _>>=_, One, ended, element, explicit, byHeader, byOne, byItem, byFragment, fragmentsBy, elementsBy, itemsBy, fragmentsAt, elementsAt, itemsAt, oneAt, sizeLimit, levels, dataSet, deeper}
 use Rattle.dataset.proofs.Bounds.{ElementFacts, ItemFacts, element-facts, item-facts}
 pub use Rattle.dataset.proofs.Order.{ElementIn, ElementsIn}
 use Rattle.dataset.proofs.Order.{element-in, elements-in}
@@ -56,13 +52,13 @@ abbrev ItemsAre : List ℕ → (delimited : Bool) (left stop at : ℕ) → Items
 ItemsAre d delimited left stop at is n = ItemsFill is d delimited left stop at n
 
 -- ---- one step, by what stands there
-module _ (d : List ℕ) (stop at : ℕ) (refuse : ℕ → Answer) where
+module _ (d : List ℕ) (stop at : ℕ) where
   fragment-fills : (parts : ℕ → Reading (List Span)) (p : ItemHeader) → ItemFacts d false true stop at p
-      → ((i : ℕ) → Holds (PartsAre d stop i) (parts i)) → Holds (PartsAre d stop at) (byFragment refuse parts p)
+      → ((i : ℕ) → Holds (PartsAre d stop i) (parts i)) → Holds (PartsAre d stop at) (byFragment parts p)
   unfolding byFragment FragmentsFill
-  fragment-fills parts (place.Refused number) h f = tt
-  fragment-fills parts (place.End next) h f = h .ends
-  fragment-fills parts (place.Item start end inner) h f =
+  fragment-fills parts (ItemHeader.refused f₀) h f = tt
+  fragment-fills parts (ItemHeader.ends next) h f = h .ends
+  fragment-fills parts (ItemHeader.item start end inner) h f =
       let k = h .0 in
       let x : HeaderExtent (num32 d (at + 4)) stop start end false = rw (h .1 refl) at (k .extent) in
       then-holds (PartsAre d stop end) (PartsAre d stop at) (parts end) _ (f end) λ ss n j. (k .tag, k .starts, x, j)
@@ -70,15 +66,15 @@ module _ (d : List ℕ) (stop at : ℕ) (refuse : ℕ → Answer) where
   header-fills : (delimited : Bool) (left least : ℕ) (items : Bool → ℕ → ℕ → Reading Items) (parts : ℕ → Reading (List Span)) (p : ElementHeader)
       → ElementFacts d delimited left stop at least p
       → ((inner : Bool) (end i : ℕ) → Holds (ItemsAre d inner left end i) (items inner end i))
-      → ((i : ℕ) → Holds (PartsAre d stop i) (parts i)) → Holds (OneFills d delimited left stop at least) (byHeader refuse items parts at p)
+      → ((i : ℕ) → Holds (PartsAre d stop i) (parts i)) → Holds (OneFills d delimited left stop at least) (byHeader items parts at p)
   unfolding byHeader ElementFills
-  header-fills delimited left least items parts (header.Refused number) h f g = tt
-  header-fills delimited left least items parts (header.End next) h f g = h .ends
-  header-fills delimited left least items parts (header.Value tag vr start end) h f g = (h .0, (refl, h .1, refl))
-  header-fills delimited left least items parts (header.Sequence tag start end inner) h f g =
+  header-fills delimited left least items parts (ElementHeader.refused f₀) h f g = tt
+  header-fills delimited left least items parts (ElementHeader.ends next) h f g = h .ends
+  header-fills delimited left least items parts (ElementHeader.value tag vr start end) h f g = (h .0, (refl, h .1, refl))
+  header-fills delimited left least items parts (ElementHeader.sequence tag start end inner) h f g =
       then-holds (ItemsAre d inner left end start) (OneFills d delimited left stop at least) (items inner end start) _ (f inner end start) λ is n j.
       (h .0, (inner, end, refl, h .1, h .4, h .6, j, refl))
-  header-fills delimited left least items parts (header.Fragments tag start) h f g =
+  header-fills delimited left least items parts (ElementHeader.fragments tag start) h f g =
       then-holds (PartsAre d stop start) (OneFills d delimited left stop at least) (parts start) _ (g start) λ ss n j.
       (h .0, (refl, h .1, h .3, j, refl))
 
@@ -93,15 +89,15 @@ module _ (d : List ℕ) (stop at : ℕ) (refuse : ℕ → Answer) where
 
   item-fills : (delimited : Bool) (left : ℕ) (elements : Bool → ℕ → ℕ → Reading Elements) (items : ℕ → Reading Items) (p : ItemHeader)
       → ItemFacts d true delimited stop at p
-      → ((inner : Bool) (end i : ℕ) → Holds (ElementsAre d inner (left - 1) end i 0) (elements inner end i))
+      → ((inner : Bool) (end i : ℕ) → Holds (ElementsAre d inner (deeper left) end i 0) (elements inner end i))
       → ((i : ℕ) → Holds (ItemsAre d delimited left stop i) (items i))
-      → Holds (ItemsAre d delimited left stop at) (byItem refuse elements items at p)
+      → Holds (ItemsAre d delimited left stop at) (byItem elements items at p)
   unfolding byItem ItemsFill
-  item-fills delimited left elements items (place.Refused number) h f g = tt
-  item-fills delimited left elements items (place.End next) h f g = h .ends
-  item-fills delimited left elements items (place.Item start end inner) h f g =
+  item-fills delimited left elements items (ItemHeader.refused f₀) h f g = tt
+  item-fills delimited left elements items (ItemHeader.ends next) h f g = h .ends
+  item-fills delimited left elements items (ItemHeader.item start end inner) h f g =
       let s = h .0 .starts in
-      then-holds (ElementsAre d inner (left - 1) end start 0) (ItemsAre d delimited left stop at) (elements inner end start) _ (f inner end start) λ es n k.
+      then-holds (ElementsAre d inner (deeper left) end start 0) (ItemsAre d delimited left stop at) (elements inner end start) _ (f inner end start) λ es n k.
       then-holds (ItemsAre d delimited left stop n) (ItemsAre d delimited left stop at) (items n) _ (g n) λ is m j. (
         inner,
         end,
@@ -109,7 +105,7 @@ module _ (d : List ℕ) (stop at : ℕ) (refuse : ℕ → Answer) where
         refl,
         h .0 .tag,
         subst (λ (x : ℕ). HeaderExtent (num32 d (at + 4)) stop x end inner) s (h .0 .extent),
-        subst (λ (x : ℕ). ElementsFill es d inner (left - 1) end x 0 n) s k,
+        subst (λ (x : ℕ). ElementsFill es d inner (deeper left) end x 0 n) s k,
         j,
       )
 
@@ -118,7 +114,7 @@ fragments-fill : (n : ℕ) (d : List ℕ) (left stop at : ℕ) → Holds (PartsA
 unfolding fragmentsBy
 fragments-fill zero d left stop at = tt
 fragments-fill (suc n) d left stop at =
-    fragment-fills d stop at (refusal at) (fragmentsBy explicit n d left stop) (itemAt d false true stop at) (item-facts d false true stop at) λ i. fragments-fill n d left stop i
+    fragment-fills d stop at (fragmentsBy explicit n d left stop) (itemAt d false true stop at) (item-facts d false true stop at) λ i. fragments-fill n d left stop i
 
 mutual
   unfolding elementsBy
@@ -128,22 +124,22 @@ mutual
   elements-fill zero d delimited left stop at least = tt
   elements-fill (suc n) d delimited left stop at least =
       then-holds (OneFills d delimited left stop at least) (ElementsAre d delimited left stop at least)
-      (byHeader (refusal at) (λ inner end i. itemsBy explicit n d inner left end i) (fragmentsBy explicit n d left stop) at (elementAt d delimited left stop at least))
+      (byHeader (λ inner end i. itemsBy explicit n d inner left end i) (fragmentsBy explicit n d left stop) at (elementAt d delimited left stop at least))
       (byOne (λ i above. elementsBy explicit n d delimited left stop i above))
-      (header-fills d stop at (refusal at) delimited left least (λ inner end i. itemsBy explicit n d inner left end i) (fragmentsBy explicit n d left stop)
+      (header-fills d stop at delimited left least (λ inner end i. itemsBy explicit n d inner left end i) (fragmentsBy explicit n d left stop)
       (elementAt d delimited left stop at least) (element-facts d delimited left stop at least)
       (λ inner end i. items-fill n d inner left end i)
       (λ i. fragments-fill n d left stop i))
-      (λ o m h. one-fills d stop at (refusal at) delimited left least (λ i above. elementsBy explicit n d delimited left stop i above) o m h
+      (λ o m h. one-fills d stop at delimited left least (λ i above. elementsBy explicit n d delimited left stop i above) o m h
       λ i above. elements-fill n d delimited left stop i above)
 
   items-fill : (n : ℕ) (d : List ℕ) (delimited : Bool) (left stop at : ℕ)
       → Holds (ItemsAre d delimited left stop at) (itemsBy explicit n d delimited left stop at)
   items-fill zero d delimited left stop at = tt
   items-fill (suc n) d delimited left stop at =
-      item-fills d stop at (refusal at) delimited left (λ inner end i. elementsBy explicit n d inner (left - 1) end i 0) (λ i. itemsBy explicit n d delimited left stop i)
+      item-fills d stop at delimited left (λ inner end i. elementsBy explicit n d inner (deeper left) end i 0) (λ i. itemsBy explicit n d delimited left stop i)
       (itemAt d true delimited stop at) (item-facts d true delimited stop at)
-      (λ inner end i. elements-fill n d inner (left - 1) end i 0)
+      (λ inner end i. elements-fill n d inner (deeper left) end i 0)
       (λ i. items-fill n d delimited left stop i)
 
 -- ---- what is read in an extent inside the data set lies in it
@@ -163,7 +159,7 @@ pub one-read : (d : List ℕ) (left stop at : ℕ) → stop ≤ length d → (de
 unfolding oneAt itemsAt fragmentsAt
 one-read d left stop at l delimited least =
     holds-map (OneFills d delimited left stop at least) (OneIs d delimited left stop least at) (oneAt explicit d delimited left stop at least) go
-    (header-fills d stop at (refusal at) delimited left least (λ inner. itemsAt explicit d inner left) (fragmentsAt explicit d left stop)
+    (header-fills d stop at delimited left least (λ inner. itemsAt explicit d inner left) (fragmentsAt explicit d left stop)
     (elementAt d delimited left stop at least) (element-facts d delimited left stop at least)
     (λ inner end i. items-fill (suc (end - i)) d inner left end i)
     (λ i. fragments-fill (suc (stop - i)) d left stop i))

@@ -5,6 +5,7 @@ pub mod Bounded
 pub mod Within
 pub mod Unfolding
 pub mod Outcomes
+pub mod Levels
 pub mod OneSteps
 pub mod Steps
 pub mod Guarantees

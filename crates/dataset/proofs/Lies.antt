@@ -7,6 +7,7 @@ use lib.ListN.{length}
 use Rattle.dataset.specs.Bytes.{tagAt}
 use Rattle.dataset.specs.Vr.{OB, SQ}
 use Rattle.dataset.specs.Header.{itemTag}
+use Rattle.dataset.specs.Reading.{deeper}
 use Rattle.dataset.specs.Tree.{Span, Element, value, sequence, fragments, Elements, none, and, Items, last, item, tagOf}
 use Rattle.dataset.specs.Order.{ValueAt, NestAt}
 
@@ -46,4 +47,4 @@ unfoldable mutual
   pub ItemsLie : Items → List ℕ → (left at next : ℕ) → Type 0
   ItemsLie last d left at next = Ends d at next
   ItemsLie (item p elements rest) d left at next =
-      (mid : ℕ) × (p ≡ at) × (tagAt d at ≡ itemTag) × ElementsLie elements d (left - 1) 0 (at + 8) mid × ItemsLie rest d left mid next
+      (mid : ℕ) × (p ≡ at) × (tagAt d at ≡ itemTag) × ElementsLie elements d (deeper left) 0 (at + 8) mid × ItemsLie rest d left mid next

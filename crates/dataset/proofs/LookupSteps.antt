@@ -12,7 +12,7 @@ use Rattle.answer.specs.Answer as answer
 use Rattle.answer.specs.If.{if_then_else_}
 use Rattle.dataset.specs.Tree.{Element, Elements, none, and, tagOf, spanOf}
 use Rattle.dataset.proofs.Lies.{ElementsLie}
-use Rattle.dataset.specs.Reading.{Reading, fault, read, _>>=_, One, ended, element, explicit, byOne, elementsAt, oneAt, sizeLimit, levels, dataSet, oneOutcomeOf}
+use Rattle.dataset.specs.Reading.{Reading, fault, read, _>>=_, One, ended, element, explicit, byOne, elementsAt, oneAt, sizeLimit, levels, dataSet, handedOn, oneCase}
 use Rattle.dataset.specs.Lookup.{elementOf, absent, present, foundOf, foundIn, found}
 use Rattle.dataset.specs.Inner.Outcomes.{orNext}
 use Rattle.dataset.specs.declared.lookup.Found.{Found}
@@ -21,7 +21,7 @@ use Rattle.dataset.specs.declared.reading.OneOutcome.the-variants as one
 use Rattle.dataset.proofs.Bounded.{explicit-bounded}
 use Rattle.dataset.proofs.Unfolding.{elements-are}
 use Rattle.dataset.proofs.Outcomes.{IsElement, is-element, is-one-fault, is-one-end}
-use Rattle.dataset.proofs.Steps.{one-past, data-set-is, data-set-over}
+use Rattle.dataset.proofs.Steps.{answered, one-past, data-set-is, data-set-over}
 use Rattle.dataset.proofs.Guarantees.{holds-read, OneIs, ElementIn, one-read, data-set-read}
 use Rattle.dataset.proofs.Order.{span-inside}
 
@@ -89,7 +89,7 @@ before-front size tag f e (read es n) k g =
     (front f (present (spanOf e .start) (spanOf e .end)) refl (eqb (tagOf e) tag) (foundOf size (elementOf tag es)))
 
 -- ---- a turn of the loop: r is what the reader of one element answers
-module _ (d : List ℕ) (tag at least : ℕ) (r : OneOutcome) (e : r ≡ oneOutcomeOf (oneAt explicit d false levels (length d) at least)) (f : Found) (i : FindLoop d tag at least f) where
+module _ (d : List ℕ) (tag at least : ℕ) (r : OneOutcome) (e : oneCase r ≡ handedOn (oneAt explicit d false levels (length d) at least)) (f : Found) (i : FindLoop d tag at least f) where
   is : (o : Reading One) → oneAt explicit d false levels (length d) at least ≡ o
       → elementsAt explicit d false levels (length d) at least ≡ (o >>= byOne (elementsAt explicit d false levels (length d)))
   is o q = rw (elements-are explicit explicit-bounded d false levels (length d) at least (i .inside), q)
@@ -101,12 +101,12 @@ module _ (d : List ℕ) (tag at least : ℕ) (r : OneOutcome) (e : r ≡ oneOutc
   pub find-refused : (g : Answer) (x : Found) → length d ≤ sizeLimit → r ≡ one.Refused g → x ≡ absent g (length d) → x ≡ found d tag
   unfolding withBefore
   find-refused g x h q w =
-      w ∙ sym (so h (absent g (length d)) (rw (is (fault g) (is-one-fault (oneAt explicit d false levels (length d) at least) g (sym e ∙ q)))))
+      w ∙ sym (so h (absent g (length d)) (rw (is (fault g) (is-one-fault (oneAt explicit d false levels (length d) at least) g (answered d false levels (length d) at least r e (i .inside) ∙ q)))))
 
   pub find-end : (next : ℕ) → length d ≤ sizeLimit → r ≡ one.End next → f ≡ found d tag
   unfolding byOne withBefore elementOf foundOf
   find-end next h q =
-      sym (so h f (rw (is (read ended next) (is-one-end (oneAt explicit d false levels (length d) at least) next (sym e ∙ q))) (i .kept)))
+      sym (so h f (rw (is (read ended next) (is-one-end (oneAt explicit d false levels (length d) at least) next (answered d false levels (length d) at least r e (i .inside) ∙ q))) (i .kept)))
 
   after : (x : Element) (next : ℕ) → oneAt explicit d false levels (length d) at least ≡ read (element x) next
       → withBefore (length d) tag f (elementsAt explicit d false levels (length d) at least)
@@ -118,7 +118,7 @@ module _ (d : List ℕ) (tag at least : ℕ) (r : OneOutcome) (e : r ≡ oneOutc
 
   module _ (here vr start end next : ℕ) (q : r ≡ one.Element here vr start end next) where
     it : IsElement (oneAt explicit d false levels (length d) at least) here vr start end next
-    it = is-element (oneAt explicit d false levels (length d) at least) here vr start end next (sym e ∙ q)
+    it = is-element (oneAt explicit d false levels (length d) at least) here vr start end next (answered d false levels (length d) at least r e (i .inside) ∙ q)
 
     pub find-order : start ≤ end
     find-order =

@@ -9,10 +9,11 @@ use lib.ListN.{length}
 use Rattle.answer.specs.declared.Answer.{Answer}
 use Rattle.answer.specs.If.{if_then_else_}
 use Rattle.dataset.specs.Vr.{OB, SQ}
-use Rattle.dataset.specs.Header.{elementAt}
+use Rattle.dataset.specs.Header.{elementCase, elementAt}
+use Rattle.dataset.specs.Header as spec
 use Rattle.dataset.specs.Tree.{Element}
-use Rattle.dataset.specs.Reading.{Reading, fault, read, _>>=_, One, explicit, refusal, byHeader, fragmentsAt, itemsAt, oneAt, oneOutcomeOf}
-use Rattle.dataset.specs.Inner.Outcomes.{outcomeOf, PastDelimiter, holdingOf}
+use Rattle.dataset.specs.Reading.{Reading, fault, read, _>>=_, One, explicit, byHeader, fragmentsAt, itemsAt, oneAt, handedOn, oneCase}
+use Rattle.dataset.specs.Inner.Outcomes.{outcomeOf, oneOutcomeOf, PastDelimiter, holdingOf}
 use Rattle.dataset.specs.declared.header.ElementHeader.{ElementHeader}
 use Rattle.dataset.specs.declared.header.ElementHeader.the-variants as header
 use Rattle.dataset.specs.declared.reading.Outcome.{Outcome}
@@ -20,7 +21,7 @@ use Rattle.dataset.specs.declared.reading.Outcome.the-variants as outcom
 use Rattle.dataset.specs.declared.reading.OneOutcome.{OneOutcome}
 use Rattle.dataset.specs.declared.reading.OneOutcome.the-variants as one
 use Rattle.dataset.proofs.Bounds.{ElementFacts, element-facts}
-use Rattle.dataset.proofs.Outcomes.{fragments-next, items-next}
+use Rattle.dataset.proofs.Outcomes.{fragments-next, items-next, handed-on}
 
 -- ---- one element: r is what stands at `at`, and o what the reader of its inside answers
 past : (o : Outcome) → ((n : ℕ) → o ≡ outcome.Next n → 8 ≤ n) → PastDelimiter o
@@ -52,31 +53,39 @@ pub past-room : (o : Outcome) (n : ℕ) → PastDelimiter o → o ≡ outcome.Ne
 past-room (outcome.Refused f) n p e = absurd (true≢false (cc))
 past-room (outcome.Next m) n p e = let q : m ≡ n = cc in rw (← q) p
 
-module _ (d : List ℕ) (delimited : Bool) (left stop at least : ℕ) (r : ElementHeader) (e : r ≡ elementAt d delimited left stop at least) where
-  pub element-at : (p : ElementHeader) → r ≡ p → ElementFacts d delimited left stop at least p
-  element-at p q = rw (sym e ∙ q) at (element-facts d delimited left stop at least)
+-- one element by what stands there
+pub one-by : (d : List ℕ) (delimited : Bool) (left stop at least : ℕ) (h : spec.ElementHeader) → h ≡ elementAt d delimited left stop at least
+    → oneAt explicit d delimited left stop at least ≡ byHeader (λ inner. itemsAt explicit d inner left) (fragmentsAt explicit d left stop) at h
+unfolding oneAt
+one-by d delimited left stop at least h e = rw e
 
-  pub one-is : (p : ElementHeader) → r ≡ p → oneAt explicit d delimited left stop at least
-      ≡ byHeader (refusal at) (λ inner. itemsAt explicit d inner left) (fragmentsAt explicit d left stop) at p
-  unfolding oneAt
-  one-is p q = rw (sym e ∙ q)
+module _ (d : List ℕ) (delimited : Bool) (left stop at least : ℕ) (r : ElementHeader) (e : elementCase r ≡ elementAt d delimited left stop at least) where
+  pub element-at : (p : ElementHeader) → r ≡ p → ElementFacts d delimited left stop at least (elementCase p)
+  element-at p q = rw (sym e ∙ ap elementCase q) at (element-facts d delimited left stop at least)
 
-  pub one-refused : (number : ℕ) (f : Answer) → r ≡ header.Refused number → f ≡ refusal at number
-      → one.Refused f ≡ oneOutcomeOf (oneAt explicit d delimited left stop at least)
+  one-is : (p : ElementHeader) → r ≡ p → oneAt explicit d delimited left stop at least
+      ≡ byHeader (λ inner. itemsAt explicit d inner left) (fragmentsAt explicit d left stop) at (elementCase p)
+  one-is p q = one-by d delimited left stop at least (elementCase p) (sym (ap elementCase q) ∙ e)
+
+  -- what the reader answers is handed on
+  answers : (z : OneOutcome) → z ≡ oneOutcomeOf (oneAt explicit d delimited left stop at least) → oneCase z ≡ handedOn (oneAt explicit d delimited left stop at least)
+  answers z = handed-on (oneAt explicit d delimited left stop at least) z
+
+  pub one-refused : (f : Answer) → r ≡ header.Refused f → oneCase (one.Refused f) ≡ handedOn (oneAt explicit d delimited left stop at least)
   unfolding byHeader
-  one-refused number f q g = ap one.Refused g ∙ sym (ap oneOutcomeOf (one-is (header.Refused number) q))
+  one-refused f q = answers (one.Refused f) (sym (ap oneOutcomeOf (one-is (header.Refused f) q)))
 
-  pub one-end : (next : ℕ) → r ≡ header.End next → one.End next ≡ oneOutcomeOf (oneAt explicit d delimited left stop at least)
+  pub one-end : (next : ℕ) → r ≡ header.End next → oneCase (one.End next) ≡ handedOn (oneAt explicit d delimited left stop at least)
   unfolding byHeader
-  one-end next q = sym (ap oneOutcomeOf (one-is (header.End next) q))
+  one-end next q = answers (one.End next) (sym (ap oneOutcomeOf (one-is (header.End next) q)))
 
   pub one-value : (tag vr start end : ℕ) → r ≡ header.Value tag vr start end
-      → one.Element tag vr start end end ≡ oneOutcomeOf (oneAt explicit d delimited left stop at least)
+      → oneCase (one.Element tag vr start end end) ≡ handedOn (oneAt explicit d delimited left stop at least)
   unfolding byHeader
-  one-value tag vr start end q = sym (ap oneOutcomeOf (one-is (header.Value tag vr start end) q))
+  one-value tag vr start end q = answers (one.Element tag vr start end end) (sym (ap oneOutcomeOf (one-is (header.Value tag vr start end) q)))
 
   module _ (tag start end : ℕ) (inner : Bool) (q : r ≡ header.Sequence tag start end inner) where
-    sequence-facts : ElementFacts d delimited left stop at least (header.Sequence tag start end inner)
+    sequence-facts : ElementFacts d delimited left stop at least (elementCase (header.Sequence tag start end inner))
     sequence-facts = element-at (header.Sequence tag start end inner) q
 
     pub sequence-level : 0 < left
@@ -96,14 +105,14 @@ module _ (d : List ℕ) (delimited : Bool) (left stop at least : ℕ) (r : Eleme
           let m = items-next d left end start n sequence-order inner (sym x ∙ w) in
           omega (arith, k .1 .starts, m .0)
 
-      pub sequence-one : (z : OneOutcome) → z ≡ holdingOf tag SQ start inner o → z ≡ oneOutcomeOf (oneAt explicit d delimited left stop at least)
+      pub sequence-one : (z : OneOutcome) → z ≡ holdingOf tag SQ start inner o → oneCase z ≡ handedOn (oneAt explicit d delimited left stop at least)
       unfolding byHeader
       sequence-one z e =
-          e ∙ rw (w, one-is (header.Sequence tag start end inner) q)
-          (holding-is tag SQ start inner (itemsAt explicit d inner left end start) _ λ i n. refl)
+          answers z (e ∙ rw (w, one-is (header.Sequence tag start end inner) q)
+          (holding-is tag SQ start inner (itemsAt explicit d inner left end start) _ λ i n. refl))
 
   module _ (tag start : ℕ) (q : r ≡ header.Fragments tag start) where
-    parts-facts : ElementFacts d delimited left stop at least (header.Fragments tag start)
+    parts-facts : ElementFacts d delimited left stop at least (elementCase (header.Fragments tag start))
     parts-facts = element-at (header.Fragments tag start) q
 
     pub parts-order : start ≤ stop
@@ -120,8 +129,8 @@ module _ (d : List ℕ) (delimited : Bool) (left stop at least : ℕ) (r : Eleme
           let m = fragments-next d left stop start n parts-order (sym x ∙ w) in
           omega (arith, k .1 .starts, m .0)
 
-      pub parts-one : (z : OneOutcome) → z ≡ holdingOf tag OB start true o → z ≡ oneOutcomeOf (oneAt explicit d delimited left stop at least)
+      pub parts-one : (z : OneOutcome) → z ≡ holdingOf tag OB start true o → oneCase z ≡ handedOn (oneAt explicit d delimited left stop at least)
       unfolding byHeader if_then_else_
       parts-one z e =
-          e ∙ rw (w, one-is (header.Fragments tag start) q)
-          (holding-is tag OB start true (fragmentsAt explicit d left stop start) _ λ i n. refl)
+          answers z (e ∙ rw (w, one-is (header.Fragments tag start) q)
+          (holding-is tag OB start true (fragmentsAt explicit d left stop start) _ λ i n. refl))

@@ -8,6 +8,7 @@ use native.Mathlib.Omega.{arith}
 use lib.ListN.{length}
 use Rattle.answer.specs.If.{if_then_else_}
 use Rattle.dataset.specs.Vr.{formOf, OB, SQ}
+use Rattle.dataset.specs.Reading.{deeper}
 use Rattle.dataset.specs.Tree.{Span, Element, value, sequence, fragments, Elements, none, and, Items, last, item, tagOf, spanOf}
 use Rattle.dataset.specs.Order.{Sized, ValueAt, NestAt, HeaderExtent, EndsIn, FragmentsFill, ElementFills, ElementsFill, ItemsFill}
 use Rattle.dataset.proofs.Bounds.{value-start}
@@ -152,7 +153,7 @@ mutual
       let k = end-in d _ delimited stop at n l r in record { tree = k .tree; order = k .tree .order; inside = k .inside; closed = k .closed }
   items-in (item p es is) d delimited left stop at n l r =
       let x = extent-inside _ stop (at + 8) (r .1) (r .0) (r .5) in
-      let k = elements-in es d (r .0) (left - 1) (r .1) 0 (at + 8) (r .2) (omega (arith, l, x)) (r .6) in
+      let k = elements-in es d (r .0) (deeper left) (r .1) 0 (at + 8) (r .2) (omega (arith, l, x)) (r .6) in
       let j = items-in is d delimited left stop (r .2) n l (r .7) in
       record {
         tree = (r .2, r .3, r .4, k .tree, j .tree);
@@ -220,7 +221,7 @@ mutual
   pub items-end : (is : Items) (d : List ℕ) (left at next : ℕ) → ItemsLie is d left at next → Ends d at next
   items-end last d left at next r = r
   items-end (item p es is) d left at next r =
-      let h = elements-end es d (left - 1) 0 (at + 8) (r .0) (r .3) in
+      let h = elements-end es d (deeper left) 0 (at + 8) (r .0) (r .3) in
       let k = items-end is d left (r .0) next (r .4) in
       record {
         order = omega (arith, h .order, k .order);

@@ -1,15 +1,16 @@
 -- What the readers answer, and what it says of the reading: the laws of `outcomeOf` and `oneOutcomeOf`. Assumes nothing.
 use Prim.Native.Nat.{ℕ, suc, _-_, _≤_}
-use mathlib.Core.Path.{_≡_, refl, sym, ap}
+use mathlib.Core.Path.{_≡_, refl, sym, ap, ap₂}
 use mathlib.Core.Bool.{Bool, true≢false}
 use mathlib.Core.List.{List}
 use native.Mathlib.Omega.{arith}
 use Rattle.answer.specs.declared.Answer.{Answer}
-use Rattle.dataset.specs.Tree.{Element, tagOf, vrOf, spanOf}
-use Rattle.dataset.specs.Reading.{Reading, fault, read, _>>=_, One, ended, element, explicit, fragmentsAt, elementsAt, itemsAt, oneOutcomeOf}
-use Rattle.dataset.specs.Inner.Outcomes.{outcomeOf}
+use Rattle.dataset.specs.Tree.{Span, span, Element, tagOf, vrOf, spanOf}
+use Rattle.dataset.specs.Reading.{Reading, fault, read, _>>=_, One, ended, element, explicit, fragmentsAt, elementsAt, itemsAt, Outline, handedOn, oneCase}
+use Rattle.dataset.specs.Inner.Outcomes.{outcomeOf, oneOutcomeOf}
 use Rattle.dataset.specs.declared.reading.Outcome.{Outcome}
 use Rattle.dataset.specs.declared.reading.Outcome.the-variants as outcome
+use Rattle.dataset.specs.declared.reading.OneOutcome.{OneOutcome}
 use Rattle.dataset.specs.declared.reading.OneOutcome.the-variants as one
 use Rattle.dataset.proofs.Bounded.{explicit-bounded}
 use Rattle.dataset.proofs.Within.{Within, fragments-within, elements-within, items-within}
@@ -59,6 +60,30 @@ module _ (d : List ℕ) (left stop at n : ℕ) (h : at ≤ stop) where
       (elements-within explicit explicit-bounded (suc (stop - at)) d delimited left stop at least h (omega arith)) (sym e)
 
 -- ---- what is read in an element's place
+
+-- the reader's answer has the case and the values of what is handed on, and no other answer has
+pub handed-on : (p : Reading One) (r : OneOutcome) → r ≡ oneOutcomeOf p → oneCase r ≡ handedOn p
+handed-on (fault f) r e = rw e
+handed-on (read ended n) r e = rw e
+handed-on (read (element x) n) r e = rw e
+
+abbrev outline : (tag vr : ℕ) (span : Span) → Outline
+outline tag vr span = record { tag = tag; vr = vr; span = span }
+
+pub handed-back : (p : Reading One) (r : OneOutcome) → oneCase r ≡ handedOn p → r ≡ oneOutcomeOf p
+handed-back (fault f) (one.Refused g) e = let q : g ≡ f = cc in ap one.Refused q
+handed-back (fault f) (one.End m) e = absurd (true≢false (cc))
+handed-back (fault f) (one.Element tag vr start end m) e = absurd (true≢false (cc))
+handed-back (read ended n) (one.Refused g) e = absurd (true≢false (cc))
+handed-back (read ended n) (one.End m) e = let q : m ≡ n = cc in ap one.End q
+handed-back (read ended n) (one.Element tag vr start end m) e = absurd (true≢false (cc))
+handed-back (read (element x) n) (one.Refused g) e = absurd (true≢false (cc))
+handed-back (read (element x) n) (one.End m) e = absurd (true≢false (cc))
+handed-back (read (element x) n) (one.Element tag vr start end m) e =
+    let o : outline tag vr (span start end) ≡ outline (tagOf x) (vrOf x) (spanOf x) = cc in
+    let q : m ≡ n = cc in
+    ap₂ (λ (a : Outline) (k : ℕ). one.Element (a .tag) (a .vr) (a .span .start) (a .span .end) k) o q
+
 pub is-one-fault : (p : Reading One) (f : Answer) → oneOutcomeOf p ≡ one.Refused f → p ≡ fault f
 is-one-fault (fault g) f e = let q : g ≡ f = cc in ap fault q
 is-one-fault (read ended n) f e = absurd (true≢false (cc))

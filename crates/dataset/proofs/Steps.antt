@@ -1,6 +1,6 @@
 -- What each turn of the readers' loops does, with the facts of the place as premises: `search` applies these laws where the code has the
 -- facts. Assumes nothing.
-use Prim.Native.Nat.{ℕ, _+_, _-_, _≤_, _<_}
+use Prim.Native.Nat.{ℕ, _+_, _-_, _*_, _≤_, _<_}
 use mathlib.Core.Path.{_≡_, refl, sym, ap, _∙_}
 use mathlib.Core.Bool.{Bool, true, false}
 use mathlib.Core.List.{List}
@@ -10,10 +10,10 @@ use borrow.Author.Tests.{lt-ltb, le-ltb}
 use Rattle.answer.specs.declared.Answer.{Answer}
 use Rattle.answer.specs.Answer as answer
 use Rattle.answer.specs.If.{if_then_else_}
-use Rattle.dataset.specs.Header.{itemAt}
+use Rattle.dataset.specs.Header.{itemCase, itemAt}
 use Rattle.dataset.specs.Tree.{Element}
-use Rattle.dataset.specs.Reading.{Reading, fault, read, _>>=_, One, ended, element, explicit, refusal, byOne, byItem, byFragment, fragmentsAt, elementsAt, itemsAt, oneAt, sizeLimit, levels, dataSet, answerOf, oneOutcomeOf}
-use Rattle.dataset.specs.Inner.Outcomes.{outcomeOf}
+use Rattle.dataset.specs.Reading.{Reading, fault, read, _>>=_, One, ended, element, explicit, byOne, byItem, byFragment, fragmentsAt, elementsAt, itemsAt, oneAt, sizeLimit, levels, deeper, dataSet, answerOf, handedOn, oneCase}
+use Rattle.dataset.specs.Inner.Outcomes.{outcomeOf, oneOutcomeOf}
 use Rattle.dataset.specs.declared.header.ItemHeader.{ItemHeader}
 use Rattle.dataset.specs.declared.header.ItemHeader.the-variants as place
 use Rattle.dataset.specs.declared.reading.Outcome.{Outcome}
@@ -23,8 +23,9 @@ use Rattle.dataset.specs.declared.reading.OneOutcome.the-variants as one
 use Rattle.dataset.proofs.Bounds.{ItemFacts, item-facts}
 use Rattle.dataset.proofs.Bounded.{explicit-bounded}
 use Rattle.dataset.proofs.Within.{OneIn, one-in}
+use Rattle.dataset.proofs.Levels.{deeper-falls}
 use Rattle.dataset.proofs.Unfolding.{fragments-are, elements-are, items-are}
-use Rattle.dataset.proofs.Outcomes.{last, then-next, is-fault, is-read, elements-next, is-one-fault, is-one-end, IsElement, is-element}
+use Rattle.dataset.proofs.Outcomes.{last, then-next, is-fault, is-read, elements-next, handed-back, is-one-fault, is-one-end, IsElement, is-element}
 
 -- ---- the loops' invariants: `at` lies in the extent, and what is read from `from` on is answered as what is read from `at` on
 pub record FragmentsLoop (d : List ℕ) (left stop from at : ℕ) : Type 0 where
@@ -40,21 +41,20 @@ pub record ItemsLoop (d : List ℕ) (delimited : Bool) (left stop from at : ℕ)
   pub same : outcomeOf (itemsAt explicit d delimited left stop from) ≡ outcomeOf (itemsAt explicit d delimited left stop at)
 
 -- ---- fragments: r is what stands at `at`, and R what the reader answers
-module _ (d : List ℕ) (stop at : ℕ) (r : ItemHeader) (e : r ≡ itemAt d false true stop at) where
-  pub fragment-at : (p : ItemHeader) → r ≡ p → ItemFacts d false true stop at p
-  fragment-at p q = rw (sym e ∙ q) at (item-facts d false true stop at)
+module _ (d : List ℕ) (stop at : ℕ) (r : ItemHeader) (e : itemCase r ≡ itemAt d false true stop at) where
+  pub fragment-at : (p : ItemHeader) → r ≡ p → ItemFacts d false true stop at (itemCase p)
+  fragment-at p q = rw (sym e ∙ ap itemCase q) at (item-facts d false true stop at)
 
   pub fragments-less : (start end : ℕ) (inner : Bool) → r ≡ place.Item start end inner → at ≤ stop → stop - end < stop - at
   fragments-less start end inner q h = let k = fragment-at (place.Item start end inner) q .0 in omega (arith, k)
 
   module _ (left : ℕ) (h : at ≤ stop) where
-    fragments-at : (p : ItemHeader) → r ≡ p → fragmentsAt explicit d left stop at ≡ byFragment (refusal at) (fragmentsAt explicit d left stop) p
-    fragments-at p q = rw (fragments-are explicit explicit-bounded d left stop at h, sym e ∙ q)
+    fragments-at : (p : ItemHeader) → r ≡ p → fragmentsAt explicit d left stop at ≡ byFragment (fragmentsAt explicit d left stop) (itemCase p)
+    fragments-at p q = rw (fragments-are explicit explicit-bounded d left stop at h, sym e ∙ ap itemCase q)
 
-    pub fragments-refused : (number : ℕ) (f : Answer) (R : Outcome) → r ≡ place.Refused number → f ≡ refusal at number
-        → R ≡ outcomeOf (fragmentsAt explicit d left stop at) → outcome.Refused f ≡ R
+    pub fragments-refused : (f : Answer) (R : Outcome) → r ≡ place.Refused f → R ≡ outcomeOf (fragmentsAt explicit d left stop at) → outcome.Refused f ≡ R
     unfolding byFragment
-    fragments-refused number f R q g i = ap outcome.Refused g ∙ sym (i ∙ ap outcomeOf (fragments-at (place.Refused number) q))
+    fragments-refused f R q i = sym (i ∙ ap outcomeOf (fragments-at (place.Refused f) q))
 
     pub fragments-end : (next : ℕ) (R : Outcome) → r ≡ place.End next → R ≡ outcomeOf (fragmentsAt explicit d left stop at) → outcome.Next next ≡ R
     unfolding byFragment
@@ -68,7 +68,10 @@ module _ (d : List ℕ) (stop at : ℕ) (r : ItemHeader) (e : r ≡ itemAt d fal
     }
 
 -- ---- elements: r is what the reader of one element answers
-module _ (d : List ℕ) (delimited : Bool) (left stop at least : ℕ) (r : OneOutcome) (e : r ≡ oneOutcomeOf (oneAt explicit d delimited left stop at least)) (h : at ≤ stop) where
+module _ (d : List ℕ) (delimited : Bool) (left stop at least : ℕ) (r : OneOutcome) (e : oneCase r ≡ handedOn (oneAt explicit d delimited left stop at least)) (h : at ≤ stop) where
+  pub answered : oneOutcomeOf (oneAt explicit d delimited left stop at least) ≡ r
+  answered = sym (handed-back (oneAt explicit d delimited left stop at least) r e)
+
   pub elements-at : (o : Reading One) → oneAt explicit d delimited left stop at least ≡ o
       → elementsAt explicit d delimited left stop at least ≡ (o >>= byOne (elementsAt explicit d delimited left stop))
   elements-at o q = rw (elements-are explicit explicit-bounded d delimited left stop at least h, q)
@@ -76,16 +79,16 @@ module _ (d : List ℕ) (delimited : Bool) (left stop at least : ℕ) (r : OneOu
   pub elements-refused : (f : Answer) (R : Outcome) → r ≡ one.Refused f
       → R ≡ outcomeOf (elementsAt explicit d delimited left stop at least) → outcome.Refused f ≡ R
   elements-refused f R q i =
-      sym (i ∙ ap outcomeOf (elements-at (fault f) (is-one-fault (oneAt explicit d delimited left stop at least) f (sym e ∙ q))))
+      sym (i ∙ ap outcomeOf (elements-at (fault f) (is-one-fault (oneAt explicit d delimited left stop at least) f (answered ∙ q))))
 
   pub elements-end : (next : ℕ) (R : Outcome) → r ≡ one.End next → R ≡ outcomeOf (elementsAt explicit d delimited left stop at least) → outcome.Next next ≡ R
   unfolding byOne
   elements-end next R q i =
-      sym (i ∙ ap outcomeOf (elements-at (read ended next) (is-one-end (oneAt explicit d delimited left stop at least) next (sym e ∙ q))))
+      sym (i ∙ ap outcomeOf (elements-at (read ended next) (is-one-end (oneAt explicit d delimited left stop at least) next (answered ∙ q))))
 
   module _ (tag vr start end next : ℕ) (q : r ≡ one.Element tag vr start end next) where
     pub one-found : IsElement (oneAt explicit d delimited left stop at least) tag vr start end next
-    one-found = is-element (oneAt explicit d delimited left stop at least) tag vr start end next (sym e ∙ q)
+    one-found = is-element (oneAt explicit d delimited left stop at least) tag vr start end next (answered ∙ q)
 
     pub one-past : (at < next) × (next ≤ stop)
     one-past = let w : OneIn at stop (read (element (one-found .what)) next) = rw (one-found .is) at (one-in explicit explicit-bounded d delimited left stop at least h) in w
@@ -102,19 +105,18 @@ module _ (d : List ℕ) (delimited : Bool) (left stop at least : ℕ) (r : OneOu
     }
 
 -- ---- items: r is what stands at `at`, and o what the reader of an item's elements answers
-module _ (d : List ℕ) (delimited : Bool) (stop at : ℕ) (r : ItemHeader) (e : r ≡ itemAt d true delimited stop at) where
-  pub item-at : (p : ItemHeader) → r ≡ p → ItemFacts d true delimited stop at p
-  item-at p q = rw (sym e ∙ q) at (item-facts d true delimited stop at)
+module _ (d : List ℕ) (delimited : Bool) (stop at : ℕ) (r : ItemHeader) (e : itemCase r ≡ itemAt d true delimited stop at) where
+  pub item-at : (p : ItemHeader) → r ≡ p → ItemFacts d true delimited stop at (itemCase p)
+  item-at p q = rw (sym e ∙ ap itemCase q) at (item-facts d true delimited stop at)
 
   module _ (left : ℕ) (h : at ≤ stop) where
     items-at : (p : ItemHeader) → r ≡ p → itemsAt explicit d delimited left stop at
-        ≡ byItem (refusal at) (λ inner end start. elementsAt explicit d inner (left - 1) end start 0) (itemsAt explicit d delimited left stop) at p
-    items-at p q = rw (items-are explicit explicit-bounded d delimited left stop at h, sym e ∙ q)
+        ≡ byItem (λ inner end start. elementsAt explicit d inner (deeper left) end start 0) (itemsAt explicit d delimited left stop) at (itemCase p)
+    items-at p q = rw (items-are explicit explicit-bounded d delimited left stop at h, sym e ∙ ap itemCase q)
 
-    pub items-refused : (number : ℕ) (f : Answer) (R : Outcome) → r ≡ place.Refused number → f ≡ refusal at number
-        → R ≡ outcomeOf (itemsAt explicit d delimited left stop at) → outcome.Refused f ≡ R
+    pub items-refused : (f : Answer) (R : Outcome) → r ≡ place.Refused f → R ≡ outcomeOf (itemsAt explicit d delimited left stop at) → outcome.Refused f ≡ R
     unfolding byItem
-    items-refused number f R q g i = ap outcome.Refused g ∙ sym (i ∙ ap outcomeOf (items-at (place.Refused number) q))
+    items-refused f R q i = sym (i ∙ ap outcomeOf (items-at (place.Refused f) q))
 
     pub items-end : (next : ℕ) (R : Outcome) → r ≡ place.End next → R ≡ outcomeOf (itemsAt explicit d delimited left stop at) → outcome.Next next ≡ R
     unfolding byItem
@@ -127,16 +129,19 @@ module _ (d : List ℕ) (delimited : Bool) (stop at : ℕ) (r : ItemHeader) (e :
     pub item-inside : (n : ℕ) → stop ≤ n → end ≤ n
     item-inside n u = let k = item-at (place.Item start end inner) q .0 in omega (arith, k)
 
-    module _ (left : ℕ) (o : Outcome) (w : o ≡ outcomeOf (elementsAt explicit d inner (left - 1) end start 0)) (h : at ≤ stop) where
-      pub item-refused : (f : Answer) (R : Outcome) → o ≡ outcome.Refused f → R ≡ outcomeOf (itemsAt explicit d delimited left stop at) → outcome.Refused f ≡ R
+    module _ (left l : ℕ) (f : l ≡ deeper left) (o : Outcome) (v : o ≡ outcomeOf (elementsAt explicit d inner l end start 0)) (h : at ≤ stop) where
+      w : o ≡ outcomeOf (elementsAt explicit d inner (deeper left) end start 0)
+      w = v ∙ ap (λ (k : ℕ). outcomeOf (elementsAt explicit d inner k end start 0)) f
+
+      pub item-refused : (g : Answer) (R : Outcome) → o ≡ outcome.Refused g → R ≡ outcomeOf (itemsAt explicit d delimited left stop at) → outcome.Refused g ≡ R
       unfolding byItem
-      item-refused f R x i =
-          sym (i ∙ rw (items-at left h (place.Item start end inner) q, is-fault (elementsAt explicit d inner (left - 1) end start 0) f (sym w ∙ x)))
+      item-refused g R x i =
+          sym (i ∙ rw (items-at left h (place.Item start end inner) q, is-fault (elementsAt explicit d inner (deeper left) end start 0) g (sym w ∙ x)))
 
       item-past : (n : ℕ) → o ≡ outcome.Next n → (at < n) × (n ≤ stop)
       item-past n x =
           let k = item-at (place.Item start end inner) q .0 in
-          let m = elements-next d (left - 1) end start n item-order inner 0 (sym x ∙ w) in
+          let m = elements-next d (deeper left) end start n item-order inner 0 (sym x ∙ w) in
           omega (arith, k, m)
 
       pub item-less : (n : ℕ) → o ≡ outcome.Next n → stop - n < stop - at
@@ -147,8 +152,12 @@ module _ (d : List ℕ) (delimited : Bool) (stop at : ℕ) (r : ItemHeader) (e :
       item-again n from x i = record {
         inside = item-past n x .1;
         same = i .same ∙ rw (items-at left h (place.Item start end inner) q)
-            (then-next (elementsAt explicit d inner (left - 1) end start 0) _ n _ (sym w ∙ x) λ a. last (itemsAt explicit d delimited left stop n) _ λ b m. refl);
+            (then-next (elementsAt explicit d inner (deeper left) end start 0) _ n _ (sym w ∙ x) λ a. last (itemsAt explicit d delimited left stop n) _ λ b m. refl);
       }
+
+-- the readers' measure falls from a sequence's items to the elements of an item
+pub elements-fall : (left l t : ℕ) → 0 < left → l ≡ deeper left → 3 * left ≡ t → 3 * l + 2 < t
+elements-fall left l t h e q = let k = deeper-falls left h in omega (arith, k, e, q)
 
 -- ---- a whole data set
 pub data-set-is : (d : List ℕ) → length d ≤ sizeLimit → dataSet d ≡ elementsAt explicit d false levels (length d) 0 0

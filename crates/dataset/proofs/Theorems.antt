@@ -24,6 +24,7 @@ use Rattle.dataset.proofs.Guarantees.{data-set-read}
 use Rattle.dataset.proofs.Filled.{filled-is-read}
 use Rattle.dataset.proofs.FirstFault.{first-fault}
 use Rattle.dataset.proofs.Order.{elements-end}
+use Rattle.dataset.proofs.Levels.{levels-count}
 
 within-fault : {A : Type 0} (lo hi : ℕ) (p : Reading A) (f : Answer) → Within lo hi p → p ≡ fault f → FaultIn lo hi f
 within-fault lo hi (fault g) f w e = let q : g ≡ f = cc in rw (← q) w
@@ -49,7 +50,7 @@ faults-inside d f e = go (ltb sizeLimit (length d)) refl
         let w = within-fault 0 (length d) (elementsAt explicit d false levels (length d) 0 0) f
         (elements-within explicit explicit-bounded (suc (length d - 0)) d false levels (length d) 0 0 (omega arith) (omega arith))
         (sym (data-set-is d (ltb-false sizeLimit (length d) b)) ∙ e) in
-        record { least = omega (arith, w .number); most = omega (arith, w .number); inside = w .inside; nothing = w .nothing }
+        record { least = omega (arith, w .least); most = w .most; inside = w .inside; nothing = w .nothing }
 
 one-fault : (lo hi : ℕ) (p : Reading One) (f : Answer) → OneIn lo hi p → p ≡ fault f → FaultIn lo hi f
 one-fault lo hi (fault g) f w e = let q : g ≡ f = cc in rw (← q) w
@@ -57,7 +58,7 @@ one-fault lo hi (read ended n) f w e = absurd (true≢false (cc))
 one-fault lo hi (read (element x) n) f w e = absurd (true≢false (cc))
 
 refusal-in : (lo hi : ℕ) (f : Answer) → FaultIn lo hi f → Refusal 2 lo hi f
-refusal-in lo hi f w = record { fromLowest = w .number .0; upTo8 = w .number .1; after = w .order; inside = w .inside; noLength = w .nothing }
+refusal-in lo hi f w = record { fromLowest = w .least; upTo8 = w .most; after = w .order; inside = w .inside; noLength = w .nothing }
 
 faults-in-extents : FaultsInExtents
 unfolding elementsAt itemsAt fragmentsAt
@@ -135,5 +136,6 @@ theorems = record {
     items = items-are explicit explicit-bounded d delimited left stop at h;
     fragments = fragments-are explicit explicit-bounded d left stop at h;
   };
+  levels-count = levels-count;
   value-inside = value-inside;
 }

@@ -6,12 +6,9 @@ use mathlib.Core.Bool.{Bool, true, false}
 use mathlib.Core.List.{List}
 use native.Mathlib.Omega.{arith}
 use Rattle.answer.specs.declared.Answer.{Answer}
+use Rattle.dataset.specs.Header.{ElementHeader, ItemHeader}
 use Rattle.dataset.specs.Tree.{Span, Elements, Items, tagOf}
-use Rattle.dataset.specs.Reading.{Reading, fault, read, _>>=_, One, ended, element, Headers, refusal, byHeader, byOne, byItem, byFragment, fragmentsBy, elementsBy, itemsBy, fragmentsAt, elementsAt, itemsAt, oneAt}
-use Rattle.dataset.specs.declared.header.ElementHeader.{ElementHeader}
-use Rattle.dataset.specs.declared.header.ElementHeader.the-variants as header
-use Rattle.dataset.specs.declared.header.ItemHeader.{ItemHeader}
-use Rattle.dataset.specs.declared.header.ItemHeader.the-variants as place
+use Rattle.dataset.specs.Reading.{Reading, fault, read, _>>=_, One, ended, element, Headers, byHeader, byOne, byItem, byFragment, fragmentsBy, elementsBy, itemsBy, fragmentsAt, elementsAt, itemsAt, oneAt, deeper}
 use Rattle.dataset.proofs.Bounded.{ElementHeaderIn, ItemHeaderIn, Bounded}
 use Rattle.dataset.proofs.Within.{Within, OneIn, itemsOf, oneBy, elements-within, one-by-in, one-in}
 
@@ -21,25 +18,25 @@ then-same lo hi (fault f) k k′ w g = refl
 then-same lo hi (read a n) k k′ w g = g a n (w .0) (w .1)
 
 -- ---- one step, by what stands there
-module _ (stop at : ℕ) (refuse : ℕ → Answer) where
+module _ (stop at : ℕ) where
   -- readers that agree from here on read the same
   fragment-same : (parts parts′ : ℕ → Reading (List Span)) (p : ItemHeader) → ItemHeaderIn stop at p
-      → ((i : ℕ) → at < i → i ≤ stop → parts i ≡ parts′ i) → byFragment refuse parts p ≡ byFragment refuse parts′ p
+      → ((i : ℕ) → at < i → i ≤ stop → parts i ≡ parts′ i) → byFragment parts p ≡ byFragment parts′ p
   unfolding byFragment
-  fragment-same parts parts′ (place.Refused number) h f = refl
-  fragment-same parts parts′ (place.End next) h f = refl
-  fragment-same parts parts′ (place.Item start end delimited) h f = rw (f end (omega arith) (h .2))
+  fragment-same parts parts′ (ItemHeader.refused f₀) h f = refl
+  fragment-same parts parts′ (ItemHeader.ends next) h f = refl
+  fragment-same parts parts′ (ItemHeader.item start end delimited) h f = rw (f end (omega arith) (h .2))
 
   header-same : (items items′ : Bool → ℕ → ℕ → Reading Items) (parts parts′ : ℕ → Reading (List Span)) (p : ElementHeader) → ElementHeaderIn stop at p
       → ((delimited : Bool) (end i : ℕ) → at < i → i ≤ end → end ≤ stop → items delimited end i ≡ items′ delimited end i)
       → ((i : ℕ) → at < i → i ≤ stop → parts i ≡ parts′ i)
-      → byHeader refuse items parts at p ≡ byHeader refuse items′ parts′ at p
+      → byHeader items parts at p ≡ byHeader items′ parts′ at p
   unfolding byHeader
-  header-same items items′ parts parts′ (header.Refused number) h f g = refl
-  header-same items items′ parts parts′ (header.End next) h f g = refl
-  header-same items items′ parts parts′ (header.Value tag vr start end) h f g = refl
-  header-same items items′ parts parts′ (header.Sequence tag start end delimited) h f g = rw (f delimited end start (h .0) (h .1) (h .2))
-  header-same items items′ parts parts′ (header.Fragments tag start) h f g = rw (g start (h .0) (h .1))
+  header-same items items′ parts parts′ (ElementHeader.refused f₀) h f g = refl
+  header-same items items′ parts parts′ (ElementHeader.ends next) h f g = refl
+  header-same items items′ parts parts′ (ElementHeader.value tag vr start end) h f g = refl
+  header-same items items′ parts parts′ (ElementHeader.sequence tag start end delimited) h f g = rw (f delimited end start (h .0) (h .1) (h .2))
+  header-same items items′ parts parts′ (ElementHeader.fragments tag start) h f g = rw (g start (h .0) (h .1))
 
   one-same : (elements elements′ : ℕ → ℕ → Reading Elements) (o : Reading One) → OneIn at stop o
       → ((i least : ℕ) → at < i → i ≤ stop → elements i least ≡ elements′ i least) → (o >>= byOne elements) ≡ (o >>= byOne elements′)
@@ -52,11 +49,11 @@ module _ (stop at : ℕ) (refuse : ℕ → Answer) where
       → ((delimited : Bool) (end i : ℕ) → at < i → i ≤ end → end ≤ stop
       → (elements delimited end i ≡ elements′ delimited end i) × Within i end (elements′ delimited end i))
       → ((i : ℕ) → at < i → i ≤ stop → items i ≡ items′ i)
-      → byItem refuse elements items at p ≡ byItem refuse elements′ items′ at p
+      → byItem elements items at p ≡ byItem elements′ items′ at p
   unfolding byItem
-  item-same elements elements′ items items′ (place.Refused number) h f g = refl
-  item-same elements elements′ items items′ (place.End next) h f g = refl
-  item-same elements elements′ items items′ (place.Item start end delimited) h f g =
+  item-same elements elements′ items items′ (ItemHeader.refused f₀) h f g = refl
+  item-same elements elements′ items items′ (ItemHeader.ends next) h f g = refl
+  item-same elements elements′ items items′ (ItemHeader.item start end delimited) h f g =
       let e = f delimited end start (h .0) (h .1) (h .2) in
       rw (e .0) (then-same start end (elements′ delimited end start) _ _ (e .1) λ a n l u. rw (g n (omega arith) (omega arith)))
 
@@ -68,7 +65,7 @@ module _ (h : Headers) (b : Bounded h) where
   fragments-same zero n d left stop at z l k = absurd (omega arith)
   fragments-same (suc m) zero d left stop at z l k = absurd (omega arith)
   fragments-same (suc m) (suc n) d left stop at z l k =
-      fragment-same stop at (refusal at) _ _ (h .item d false true stop at) (b .item-in d false true stop at) λ i p q.
+      fragment-same stop at _ _ (h .item d false true stop at) (b .item-in d false true stop at) λ i p q.
       fragments-same m n d left stop i q (omega arith) (omega arith)
 
   mutual
@@ -80,10 +77,10 @@ module _ (h : Headers) (b : Bounded h) where
     elements-same (suc m) zero d delimited left stop at least z l k = absurd (omega arith)
     elements-same (suc m) (suc n) d delimited left stop at least z l k =
         ap (λ o. o >>= byOne (elementsBy h m d delimited left stop))
-        (header-same stop at (refusal at) (itemsOf h b m d left) (itemsOf h b n d left) (fragmentsBy h m d left stop) (fragmentsBy h n d left stop) (h .element d delimited left stop at least) (b .element-in d delimited left stop at least)
+        (header-same stop at (itemsOf h b m d left) (itemsOf h b n d left) (fragmentsBy h m d left stop) (fragmentsBy h n d left stop) (h .element d delimited left stop at least) (b .element-in d delimited left stop at least)
         (λ inner end i p q r. items-same m n d inner left end i q (omega arith) (omega arith))
         (λ i p q. fragments-same m n d left stop i q (omega arith) (omega arith)))
-        ∙ one-same stop at (refusal at) (elementsBy h m d delimited left stop) (elementsBy h n d delimited left stop) (oneBy h b n d delimited left stop at least)
+        ∙ one-same stop at (elementsBy h m d delimited left stop) (elementsBy h n d delimited left stop) (oneBy h b n d delimited left stop at least)
         (one-by-in h b n d delimited left stop at least z (omega arith))
         (λ i above p q. elements-same m n d delimited left stop i above q (omega arith) (omega arith))
 
@@ -92,25 +89,25 @@ module _ (h : Headers) (b : Bounded h) where
     items-same zero n d delimited left stop at z l k = absurd (omega arith)
     items-same (suc m) zero d delimited left stop at z l k = absurd (omega arith)
     items-same (suc m) (suc n) d delimited left stop at z l k =
-        item-same stop at (refusal at) _ _ _ _ (h .item d true delimited stop at) (b .item-in d true delimited stop at)
-        (λ inner end i p q r. (elements-same m n d inner (left - 1) end i 0 q (omega arith) (omega arith), elements-within h b n d inner (left - 1) end i 0 q (omega arith)))
+        item-same stop at _ _ _ _ (h .item d true delimited stop at) (b .item-in d true delimited stop at)
+        (λ inner end i p q r. (elements-same m n d inner (deeper left) end i 0 q (omega arith) (omega arith), elements-within h b n d inner (deeper left) end i 0 q (omega arith)))
         (λ i p q. items-same m n d delimited left stop i q (omega arith) (omega arith))
 
   -- ---- the equations of the reading
   pub fragments-are : (d : List ℕ) (left stop at : ℕ)
-      → at ≤ stop → fragmentsAt h d left stop at ≡ byFragment (refusal at) (fragmentsAt h d left stop) (h .item d false true stop at)
+      → at ≤ stop → fragmentsAt h d left stop at ≡ byFragment (fragmentsAt h d left stop) (h .item d false true stop at)
   unfolding fragmentsAt fragmentsBy
   fragments-are d left stop at z =
-      fragment-same stop at (refusal at) _ _ (h .item d false true stop at) (b .item-in d false true stop at) λ i p q.
+      fragment-same stop at _ _ (h .item d false true stop at) (b .item-in d false true stop at) λ i p q.
       fragments-same (stop - at) (suc (stop - i)) d left stop i q (omega arith) (omega arith)
 
   pub items-are : (d : List ℕ) (delimited : Bool) (left stop at : ℕ) → at ≤ stop
       → itemsAt h d delimited left stop at
-      ≡ byItem (refusal at) (λ inner end start. elementsAt h d inner (left - 1) end start 0) (itemsAt h d delimited left stop) at (h .item d true delimited stop at)
+      ≡ byItem (λ inner end start. elementsAt h d inner (deeper left) end start 0) (itemsAt h d delimited left stop) at (h .item d true delimited stop at)
   unfolding elementsAt itemsAt elementsBy
   items-are d delimited left stop at z =
-      item-same stop at (refusal at) _ _ _ _ (h .item d true delimited stop at) (b .item-in d true delimited stop at)
-      (λ inner end i p q r. (elements-same (stop - at) (suc (end - i)) d inner (left - 1) end i 0 q (omega arith) (omega arith), elements-within h b (suc (end - i)) d inner (left - 1) end i 0 q (omega arith)))
+      item-same stop at _ _ _ _ (h .item d true delimited stop at) (b .item-in d true delimited stop at)
+      (λ inner end i p q r. (elements-same (stop - at) (suc (end - i)) d inner (deeper left) end i 0 q (omega arith) (omega arith), elements-within h b (suc (end - i)) d inner (deeper left) end i 0 q (omega arith)))
       (λ i p q. items-same (stop - at) (suc (stop - i)) d delimited left stop i q (omega arith) (omega arith))
 
   -- elements are one element and the rest
@@ -119,10 +116,10 @@ module _ (h : Headers) (b : Bounded h) where
   unfolding elementsAt oneAt itemsAt fragmentsAt elementsBy
   elements-are d delimited left stop at least z =
       ap (λ o. o >>= byOne (elementsBy h (stop - at) d delimited left stop))
-      (header-same stop at (refusal at) (itemsOf h b (stop - at) d left) (λ inner. itemsAt h d inner left) (fragmentsBy h (stop - at) d left stop) (fragmentsAt h d left stop) (h .element d delimited left stop at least) (b .element-in d delimited left stop at least)
+      (header-same stop at (itemsOf h b (stop - at) d left) (λ inner. itemsAt h d inner left) (fragmentsBy h (stop - at) d left stop) (fragmentsAt h d left stop) (h .element d delimited left stop at least) (b .element-in d delimited left stop at least)
       (λ inner end i p q r. items-same (stop - at) (suc (end - i)) d inner left end i q (omega arith) (omega arith))
       (λ i p q. fragments-same (stop - at) (suc (stop - i)) d left stop i q (omega arith) (omega arith)))
-      ∙ one-same stop at (refusal at) (elementsBy h (stop - at) d delimited left stop) (elementsAt h d delimited left stop) (oneAt h d delimited left stop at least) (one-in h b d delimited left stop at least z)
+      ∙ one-same stop at (elementsBy h (stop - at) d delimited left stop) (elementsAt h d delimited left stop) (oneAt h d delimited left stop at least) (one-in h b d delimited left stop at least z)
       (λ i above p q. elements-same (stop - at) (suc (stop - i)) d delimited left stop i above q (omega arith) (omega arith))
 
   -- any fuel above the bytes that are left reads the same

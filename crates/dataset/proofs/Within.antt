@@ -6,19 +6,17 @@ use mathlib.Core.Bool.{Bool, true, false}
 use mathlib.Core.List.{List}
 use native.Mathlib.Omega.{arith}
 use Rattle.answer.specs.declared.Answer.{Answer}
+use Rattle.dataset.specs.Header.{ElementHeader, ItemHeader}
 use Rattle.dataset.specs.Tree.{Span, Elements, Items, tagOf}
-use Rattle.dataset.specs.Reading.{Reading, fault, read, _>>=_, One, ended, element, Headers, refusal, byHeader, byOne, byItem, byFragment, fragmentsBy, elementsBy, itemsBy, fragmentsAt, itemsAt, oneAt}
-use Rattle.dataset.specs.declared.header.ElementHeader.{ElementHeader}
-use Rattle.dataset.specs.declared.header.ElementHeader.the-variants as header
-use Rattle.dataset.specs.declared.header.ItemHeader.{ItemHeader}
-use Rattle.dataset.specs.declared.header.ItemHeader.the-variants as place
-use Rattle.dataset.proofs.Bounds.{Number}
+use Rattle.dataset.specs.Reading.{Reading, fault, read, _>>=_, One, ended, element, Headers, byHeader, byOne, byItem, byFragment, fragmentsBy, elementsBy, itemsBy, fragmentsAt, itemsAt, oneAt, deeper}
+use Rattle.dataset.proofs.Bounds.{FaultAt}
 use Rattle.dataset.proofs.Bounded.{ElementHeaderIn, ItemHeaderIn, Bounded}
 
 -- ---- where faults lie, and what follows what was read
 
 pub record FaultIn (lo hi : ℕ) (f : Answer) : Type 0 where
-  pub number : Number (f .number)
+  pub least : 2 ≤ f .number
+  pub most : f .number ≤ 8
   pub order : lo ≤ f .position
   pub inside : f .position ≤ hi
   pub nothing : f .length ≡ 0
@@ -34,7 +32,7 @@ OneIn lo hi (read ended next) = (lo ≤ next) × (next ≤ hi)
 OneIn lo hi (read (element e) next) = (lo < next) × (next ≤ hi)
 
 wider : (lo hi lo′ hi′ : ℕ) (f : Answer) → lo′ ≤ lo → hi ≤ hi′ → FaultIn lo hi f → FaultIn lo′ hi′ f
-wider lo hi lo′ hi′ f l u w = record { number = w .number; order = omega arith; inside = omega arith; nothing = w .nothing }
+wider lo hi lo′ hi′ f l u w = record { least = w .least; most = w .most; order = omega arith; inside = omega arith; nothing = w .nothing }
 
 then-within : {A B : Type 0} (lo hi lo′ hi′ : ℕ) (p : Reading A) (k : A × ℕ → Reading B) → lo′ ≤ lo → hi ≤ hi′ → Within lo hi p
     → ((a : A) (n : ℕ) → lo ≤ n → n ≤ hi → Within lo′ hi′ (k (a, n))) → Within lo′ hi′ (p >>= k)
@@ -47,10 +45,10 @@ then-one lo hi lo′ hi′ (fault f) k l u w g = wider lo hi lo′ hi′ f l u w
 then-one lo hi lo′ hi′ (read a n) k l u w g = g a n (w .0) (w .1)
 
 -- ---- one step, by what stands there
-module _ (stop at : ℕ) (refuse : ℕ → Answer) where
+module _ (stop at : ℕ) (z : at ≤ stop) where
   -- a refusal of a header in the extent lies in it
-  abbrev Refuses : Type 0
-  Refuses = (number : ℕ) → Number number → FaultIn at stop (refuse number)
+  refuses : (f : Answer) → FaultAt at f → FaultIn at stop f
+  refuses f h = record { least = h .0; most = h .1; order = omega (arith, h .2); inside = omega (arith, h .2); nothing = h .3 }
 
   abbrev Parts : (ℕ → Reading (List Span)) → Type 0
   Parts parts = (i : ℕ) → at < i → i ≤ stop → Within i stop (parts i)
@@ -58,22 +56,22 @@ module _ (stop at : ℕ) (refuse : ℕ → Answer) where
   abbrev Inner : {A : Type 0} → (Bool → ℕ → ℕ → Reading A) → Type 0
   Inner inner = (delimited : Bool) (end i : ℕ) → at < i → i ≤ end → end ≤ stop → Within i end (inner delimited end i)
 
-  fragment-within : (parts : ℕ → Reading (List Span)) (p : ItemHeader) → Refuses → ItemHeaderIn stop at p → Parts parts → Within at stop (byFragment refuse parts p)
+  fragment-within : (parts : ℕ → Reading (List Span)) (p : ItemHeader) → ItemHeaderIn stop at p → Parts parts → Within at stop (byFragment parts p)
   unfolding byFragment
-  fragment-within parts (place.Refused number) z h f = z number h
-  fragment-within parts (place.End next) z h f = h
-  fragment-within parts (place.Item start end delimited) z h f =
+  fragment-within parts (ItemHeader.refused f₀) h f = refuses f₀ h
+  fragment-within parts (ItemHeader.ends next) h f = h
+  fragment-within parts (ItemHeader.item start end delimited) h f =
       then-within end stop at stop (parts end) _ (omega arith) (omega arith) (f end (omega arith) (h .2)) λ a n l u. omega arith
 
-  pub header-within : (items : Bool → ℕ → ℕ → Reading Items) (parts : ℕ → Reading (List Span)) (p : ElementHeader) → Refuses → ElementHeaderIn stop at p
-      → Inner items → Parts parts → OneIn at stop (byHeader refuse items parts at p)
+  pub header-within : (items : Bool → ℕ → ℕ → Reading Items) (parts : ℕ → Reading (List Span)) (p : ElementHeader) → ElementHeaderIn stop at p
+      → Inner items → Parts parts → OneIn at stop (byHeader items parts at p)
   unfolding byHeader
-  header-within items parts (header.Refused number) z h f g = z number h
-  header-within items parts (header.End next) z h f g = h
-  header-within items parts (header.Value tag vr start end) z h f g = h
-  header-within items parts (header.Sequence tag start end delimited) z h f g =
+  header-within items parts (ElementHeader.refused f₀) h f g = refuses f₀ h
+  header-within items parts (ElementHeader.ends next) h f g = h
+  header-within items parts (ElementHeader.value tag vr start end) h f g = h
+  header-within items parts (ElementHeader.sequence tag start end delimited) h f g =
       then-one start end at stop (items delimited end start) _ (omega arith) (omega arith) (f delimited end start (h .0) (h .1) (h .2)) λ a n l u. omega arith
-  header-within items parts (header.Fragments tag start) z h f g =
+  header-within items parts (ElementHeader.fragments tag start) h f g =
       then-one start stop at stop (parts start) _ (omega arith) (omega arith) (g start (h .0) (h .1)) λ a n l u. omega arith
 
   one-within : (elements : ℕ → ℕ → Reading Elements) (o : Reading One) → OneIn at stop o
@@ -84,17 +82,14 @@ module _ (stop at : ℕ) (refuse : ℕ → Answer) where
   one-within elements (read (element e) n) h g =
       then-within n stop at stop (elements n (tagOf e + 1)) _ (omega arith) (omega arith) (g n (tagOf e + 1) (h .0) (h .1)) λ a m l u. omega arith
 
-  item-within : (elements : Bool → ℕ → ℕ → Reading Elements) (items : ℕ → Reading Items) (p : ItemHeader) → Refuses → ItemHeaderIn stop at p
-      → Inner elements → ((i : ℕ) → at < i → i ≤ stop → Within i stop (items i)) → Within at stop (byItem refuse elements items at p)
+  item-within : (elements : Bool → ℕ → ℕ → Reading Elements) (items : ℕ → Reading Items) (p : ItemHeader) → ItemHeaderIn stop at p
+      → Inner elements → ((i : ℕ) → at < i → i ≤ stop → Within i stop (items i)) → Within at stop (byItem elements items at p)
   unfolding byItem
-  item-within elements items (place.Refused number) z h f g = z number h
-  item-within elements items (place.End next) z h f g = h
-  item-within elements items (place.Item start end delimited) z h f g =
+  item-within elements items (ItemHeader.refused f₀) h f g = refuses f₀ h
+  item-within elements items (ItemHeader.ends next) h f g = h
+  item-within elements items (ItemHeader.item start end delimited) h f g =
       then-within start end at stop (elements delimited end start) _ (omega arith) (omega arith) (f delimited end start (h .0) (h .1) (h .2)) λ a n l u.
       then-within n stop at stop (items n) _ (omega arith) (omega arith) (g n (omega arith) (omega arith)) λ b m l′ u′. omega arith
-
-pub refuses : (stop at : ℕ) → at ≤ stop → (number : ℕ) → Number number → FaultIn at stop (refusal at number)
-refuses stop at z number h = record { number = h; order = omega arith; inside = z; nothing = refl }
 
 -- ---- the whole recursion, by its fuel
 module _ (h : Headers) (b : Bounded h) where
@@ -103,14 +98,14 @@ module _ (h : Headers) (b : Bounded h) where
   itemsOf n d left inner end start = itemsBy h n d inner left end start
 
   abbrev pub oneBy : ℕ → List ℕ → (delimited : Bool) (left stop at least : ℕ) → Reading One
-  oneBy n d delimited left stop at least = byHeader (refusal at) (itemsOf n d left) (fragmentsBy h n d left stop) at (h .element d delimited left stop at least)
+  oneBy n d delimited left stop at least = byHeader (itemsOf n d left) (fragmentsBy h n d left stop) at (h .element d delimited left stop at least)
 
   -- fuel above the bytes that are left is enough
   pub fragments-within : (n : ℕ) (d : List ℕ) (left stop at : ℕ) → at ≤ stop → stop - at < n → Within at stop (fragmentsBy h n d left stop at)
   unfolding fragmentsBy
   fragments-within zero d left stop at z l = absurd (omega arith)
   fragments-within (suc n) d left stop at z l =
-      fragment-within stop at (refusal at) _ (h .item d false true stop at) (refuses stop at z) (b .item-in d false true stop at) λ i p q.
+      fragment-within stop at z _ (h .item d false true stop at) (b .item-in d false true stop at) λ i p q.
       fragments-within n d left stop i q (omega arith)
 
   mutual
@@ -120,8 +115,8 @@ module _ (h : Headers) (b : Bounded h) where
         → Within at stop (elementsBy h n d delimited left stop at least)
     elements-within zero d delimited left stop at least z l = absurd (omega arith)
     elements-within (suc n) d delimited left stop at least z l =
-        one-within stop at (refusal at) (λ i above. elementsBy h n d delimited left stop i above) (oneBy n d delimited left stop at least)
-        (header-within stop at (refusal at) (itemsOf n d left) (fragmentsBy h n d left stop) (h .element d delimited left stop at least) (refuses stop at z) (b .element-in d delimited left stop at least)
+        one-within stop at z (λ i above. elementsBy h n d delimited left stop i above) (oneBy n d delimited left stop at least)
+        (header-within stop at z (itemsOf n d left) (fragmentsBy h n d left stop) (h .element d delimited left stop at least) (b .element-in d delimited left stop at least)
         (λ inner end i p q r. items-within n d inner left end i q (omega arith))
         (λ i p q. fragments-within n d left stop i q (omega arith)))
         (λ i above p q. elements-within n d delimited left stop i above q (omega arith))
@@ -130,20 +125,20 @@ module _ (h : Headers) (b : Bounded h) where
         → Within at stop (itemsBy h n d delimited left stop at)
     items-within zero d delimited left stop at z l = absurd (omega arith)
     items-within (suc n) d delimited left stop at z l =
-        item-within stop at (refusal at) _ _ (h .item d true delimited stop at) (refuses stop at z) (b .item-in d true delimited stop at)
-        (λ inner end i p q r. elements-within n d inner (left - 1) end i 0 q (omega arith))
+        item-within stop at z _ _ (h .item d true delimited stop at) (b .item-in d true delimited stop at)
+        (λ inner end i p q r. elements-within n d inner (deeper left) end i 0 q (omega arith))
         (λ i p q. items-within n d delimited left stop i q (omega arith))
 
   -- what is read in an element's place lies in the extent
   pub one-by-in : (n : ℕ) (d : List ℕ) (delimited : Bool) (left stop at least : ℕ) → at ≤ stop → stop - at ≤ n → OneIn at stop (oneBy n d delimited left stop at least)
   one-by-in n d delimited left stop at least z l =
-      header-within stop at (refusal at) (itemsOf n d left) (fragmentsBy h n d left stop) (h .element d delimited left stop at least) (refuses stop at z) (b .element-in d delimited left stop at least)
+      header-within stop at z (itemsOf n d left) (fragmentsBy h n d left stop) (h .element d delimited left stop at least) (b .element-in d delimited left stop at least)
       (λ inner end i p q r. items-within n d inner left end i q (omega arith))
       (λ i p q. fragments-within n d left stop i q (omega arith))
 
   pub one-in : (d : List ℕ) (delimited : Bool) (left stop at least : ℕ) → at ≤ stop → OneIn at stop (oneAt h d delimited left stop at least)
   unfolding oneAt itemsAt fragmentsAt
   one-in d delimited left stop at least z =
-      header-within stop at (refusal at) (λ inner. itemsAt h d inner left) (fragmentsAt h d left stop) (h .element d delimited left stop at least) (refuses stop at z) (b .element-in d delimited left stop at least)
+      header-within stop at z (λ inner. itemsAt h d inner left) (fragmentsAt h d left stop) (h .element d delimited left stop at least) (b .element-in d delimited left stop at least)
       (λ inner end i p q r. items-within (suc (end - i)) d inner left end i q (omega arith))
       (λ i p q. fragments-within (suc (stop - i)) d left stop i q (omega arith))

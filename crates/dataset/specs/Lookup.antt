@@ -1,4 +1,4 @@
--- The lookup: 01, "Numbers that come back", its last paragraph. Assumes nothing.
+-- The lookup: RULES, 3. Assumes nothing.
 use Prim.Native.Nat.{ℕ, _+_, _-_}
 use mathlib.Core.Path.{_≡_}
 use mathlib.Core.Bool.{Bool, true, false}
@@ -17,16 +17,17 @@ use Rattle.dataset.specs.declared.lookup.Found.{Found}
 
 -- Found (src/lookup.rt): answer present start length
 
--- the element of a "top-level tag": items are not searched
+-- the element of "a tag at the top level" (3.1): items are not searched
 unfoldable pub elementOf : (tag : ℕ) → Elements → Option Element
 elementOf tag none = Opt.none
 elementOf tag (and e rest) = if eqb (tagOf e) tag then some e else elementOf tag rest
 
--- "Where the set is refused or the tag absent it is the empty part at the end", and a no
+-- 3.2: "the part has no bytes and lies at the data set's end", and a no
 abbrev pub absent : Answer → (size : ℕ) → Found
 absent a size = record { answer = a; present = false; start = size; length = 0 }
 
--- "the part of the lent data set that is the value of a top-level tag, without a closing sequence delimiter", and a yes
+-- 3.1: "the value of a tag at the top level, as a part of the data set that it was lent; a sequence delimiter that ends the value is not in
+-- it", and a yes
 abbrev pub present : (start end : ℕ) → Found
 present start end = record { answer = answer.accepted 0; present = true; start = start; length = end - start }
 
@@ -35,7 +36,7 @@ unfoldable pub foundOf : (size : ℕ) → Option Element → Found
 foundOf size Opt.none = absent (answer.accepted 0) size
 foundOf size (some e) = present (spanOf e .start) (spanOf e .end)
 
--- "Beside it stand the reading's number and position (0, or 1 to 8) and a yes or no: whether the tag stands there."
+-- 3.3: "the reading's number (0 to 8) and position, and a yes or no that says if the tag was found"
 unfoldable pub foundIn : (size tag : ℕ) → Reading Elements → Found
 foundIn size tag (fault f) = absent f size
 foundIn size tag (read es next) = foundOf size (elementOf tag es)
@@ -46,10 +47,10 @@ found d tag = foundIn (length d) tag (dataSet d)
 
 -- What lookup hands back: a part of the lent data set, not a copy, by its offset and its length; beside it the number, the position and the
 -- yes or no. A place is a block of memory and an offset in it: `lent` is where the data set starts, `place` where the part starts.
-pub record Lookup (f : Found) (lent : ℕ × ℕ) (d : List ℕ) (place : ℕ × ℕ) (value : List ℕ) (number position : ℕ) (present : Bool) : Type 0 where
+pub record Lookup (f : Found) (lent : ℕ × ℕ) (d : List ℕ) (place : ℕ × ℕ) (value : List ℕ) (number position : ℕ) (yes : Bool) : Type 0 where
   pub block : place .0 ≡ lent .0
   pub offset : place .1 ≡ lent .1 + f .start
   pub part : value ≡ between d (f .start) (f .start + f .length)
   pub numbered : number ≡ f .answer .number
   pub positioned : position ≡ f .answer .position
-  pub stands : present ≡ f .present
+  pub stands : yes ≡ f .present

@@ -9,6 +9,7 @@ use Rattle.answer.specs.If.{if_then_else_}
 use Rattle.dataset.specs.Bytes.{num16, num32, tagAt, vrAt}
 use Rattle.dataset.specs.Vr.{OB, SQ, formOf}
 use Rattle.dataset.specs.Header.{undefined, itemTag, itemDelimiter, sequenceDelimiter}
+use Rattle.dataset.specs.Reading.{deeper}
 use Rattle.dataset.specs.Tree.{Span, Element, value, sequence, fragments, Elements, none, and, Items, last, item, tagOf}
 use Rattle.dataset.specs.declared.vr.Form.{Form}
 use Rattle.dataset.specs.declared.vr.Form.the-variants.{Short, Long, Neither}
@@ -18,8 +19,8 @@ pub record Tagged (d : List ℕ) (at tag : ℕ) : Type 0 where
   pub stands : tag ≡ tagAt d at
   pub group : num16 d at ≢ 0xFFFE
 
--- where the value starts after the header at `at`, and its length n as the header has it; in the long form the "two reserved zero
--- bytes" too
+-- where the value starts after the header at `at`, and its length n as the header has it; in the long form the "two reserved bytes, both
+-- zero" (2.7) too
 abbrev pub Sized : Form → List ℕ → (at start n : ℕ) → Type 0
 Sized Short d at start n = (start ≡ at + 8) × (num16 d (at + 6) ≡ n)
 Sized Long d at start n = (start ≡ at + 12) × (num16 d (at + 6) ≡ 0) × (num32 d (at + 8) ≡ n)
@@ -44,13 +45,13 @@ pub record NestAt (d : List ℕ) (stop at tag vr start : ℕ) : Type 0 where
   pub inside : start ≤ stop
 
 -- The extent, up to `end`, of what starts at `start` and has the length n in its header: up to the end of the extent round it, where n is
--- "FFFFFFFF (undefined)" and a delimiter closes it (`delimited`); else n bytes, "even" and "inside the extent".
+-- undefined (2.8) and a delimiter ends it (`delimited`); else n bytes, "even" and "inside the extent" (2.13).
 abbrev pub HeaderExtent : (n stop start end : ℕ) (delimited : Bool) → Type 0
 HeaderExtent n stop start end true = (n ≡ undefined) × (end ≡ stop)
 HeaderExtent n stop start end false = (n % 2 ≡ 0) × (end ≡ start + n) × (end ≤ stop)
 
 -- The end of elements, items or fragments at `at`, in an extent up to `stop`, and what follows it at `next`: a defined length is filled
--- "exactly"; otherwise the delimiter "of length 0" stands there, in the extent.
+-- exactly; otherwise the delimiter "with length 0" stands there, in the extent.
 abbrev pub EndsIn : List ℕ → (delimiter : ℕ) (delimited : Bool) (stop at next : ℕ) → Type 0
 EndsIn d delimiter true stop at next = (tagAt d at ≡ delimiter) × (num32 d (at + 4) ≡ 0) × (next ≡ at + 8) × (next ≤ stop)
 EndsIn d delimiter false stop at next = (at ≡ stop) × (next ≡ at)
@@ -86,4 +87,4 @@ unfoldable mutual
   ItemsFill last d delimited left stop at next = EndsIn d sequenceDelimiter delimited stop at next
   ItemsFill (item p elements rest) d delimited left stop at next =
       (inner : Bool) × (end : ℕ) × (mid : ℕ) × (p ≡ at) × (tagAt d at ≡ itemTag) × HeaderExtent (num32 d (at + 4)) stop (at + 8) end inner
-      × ElementsFill elements d inner (left - 1) end (at + 8) 0 mid × ItemsFill rest d delimited left stop mid next
+      × ElementsFill elements d inner (deeper left) end (at + 8) 0 mid × ItemsFill rest d delimited left stop mid next

@@ -1,20 +1,17 @@
--- The reading of a data set: "The first fault from the left is given, at the offset where that element's, item's or delimiter's header
--- starts" (01, "Reading the data set"), or the tree of its elements. Assumes nothing.
+-- The reading of a data set: "Of several faults the leftmost is given." (RULES, 2.20), or the tree of its elements. Assumes nothing.
 use Prim.Native.Nat.{ℕ, zero, suc, _+_, _-_}
 use mathlib.Core.Bool.{Bool, true, false}
 use mathlib.Core.List.{List, [], _∷_}
+use mathlib.Core.Option.{Option, some}
+use mathlib.Core.Option as Opt
 use mathlib.Core.Path.{_≡_}
 use lib.ListN.{length}
 use lib.Dec.{ltb}
 use Rattle.answer.specs.declared.Answer.{Answer}
 use Rattle.answer.specs.Answer as answer
 use Rattle.answer.specs.If.{if_then_else_}
-use Rattle.dataset.specs.Header.{elementAt, itemAt}
+use Rattle.dataset.specs.Header.{ElementHeader, ItemHeader, refusal, elementAt, itemAt}
 use Rattle.dataset.specs.Tree.{Span, span, Element, value, sequence, fragments, Elements, none, and, Items, last, item, tagOf, vrOf, spanOf}
-use Rattle.dataset.specs.declared.header.ElementHeader.{ElementHeader}
-use Rattle.dataset.specs.declared.header.ElementHeader.the-variants as elementHeader
-use Rattle.dataset.specs.declared.header.ItemHeader.{ItemHeader}
-use Rattle.dataset.specs.declared.header.ItemHeader.the-variants as itemHeader
 use Rattle.dataset.specs.declared.reading.OneOutcome.{OneOutcome}
 use Rattle.dataset.specs.declared.reading.OneOutcome.the-variants as one
 
@@ -23,7 +20,7 @@ pub data Reading (A : Type 0) : Type 0 where
   fault : Answer → Reading A
   read : A → (next : ℕ) → Reading A
 
--- one reading after another: the first fault from the left stands
+-- one reading after another: the leftmost fault stands
 infixl 10 _>>=_
 abbrev pub _>>=_ : {A B : Type 0} → Reading A → (A × ℕ → Reading B) → Reading B
 fault f >>= k = fault f
@@ -44,21 +41,17 @@ pub record Headers : Type 0 where
 abbrev pub explicit : Headers
 explicit = record { element = elementAt; item = itemAt }
 
--- the refusal of the header at `at`: "at the offset where that element's, item's or delimiter's header starts"
-abbrev pub refusal : (at number : ℕ) → Answer
-refusal at number = answer.refused number at
-
--- One element, by its header. Handed in are the refusal, by its number, at this offset (`refuse`), and the readers of its items (`items`)
--- and of its fragments (`parts`). A closing delimiter, of 8 bytes, is no part of the value.
-unfoldable pub byHeader : (refuse : (number : ℕ) → Answer) (items : (delimited : Bool) (stop start : ℕ) → Reading Items)
-    (parts : (start : ℕ) → Reading (List Span)) (at : ℕ) → ElementHeader → Reading One
-byHeader refuse items parts at (elementHeader.Refused number) = fault (refuse number)
-byHeader refuse items parts at (elementHeader.End next) = read ended next
-byHeader refuse items parts at (elementHeader.Value tag vr start stop) = read (element (value at tag vr (span start stop))) stop
-byHeader refuse items parts at (elementHeader.Sequence tag start stop delimited) = do
+-- One element, by its header. Handed in are the readers of its items (`items`) and of its fragments (`parts`). A delimiter that ends them, of
+-- 8 bytes, is no part of the value.
+unfoldable pub byHeader : (items : (delimited : Bool) (stop start : ℕ) → Reading Items) (parts : (start : ℕ) → Reading (List Span)) (at : ℕ)
+    → ElementHeader → Reading One
+byHeader items parts at (ElementHeader.refused f) = fault f
+byHeader items parts at (ElementHeader.ends next) = read ended next
+byHeader items parts at (ElementHeader.value tag vr start stop) = read (element (value at tag vr (span start stop))) stop
+byHeader items parts at (ElementHeader.sequence tag start stop delimited) = do
   (inside, next) ← items delimited stop start
   read (element (sequence at tag (span start (if delimited then next - 8 else next)) inside)) next
-byHeader refuse items parts at (elementHeader.Fragments tag start) = do
+byHeader items parts at (ElementHeader.fragments tag start) = do
   (inside, next) ← parts start
   read (element (fragments at tag (span start (next - 8)) inside)) next
 
@@ -69,25 +62,32 @@ byOne elements (element e, next) = do
   (rest, after) ← elements next (tagOf e + 1)
   read (and e rest) after
 
--- Items are one item and the rest. Handed in are the refusal, by its number, at this offset, and the readers of an item's elements and of
--- the rest.
-unfoldable pub byItem : (refuse : (number : ℕ) → Answer) (elements : (delimited : Bool) (stop start : ℕ) → Reading Elements)
-    (items : (next : ℕ) → Reading Items) (at : ℕ) → ItemHeader → Reading Items
-byItem refuse elements items at (itemHeader.Refused number) = fault (refuse number)
-byItem refuse elements items at (itemHeader.End next) = read last next
-byItem refuse elements items at (itemHeader.Item start stop delimited) = do
+-- Items are one item and the rest. Handed in are the readers of an item's elements and of the rest.
+unfoldable pub byItem : (elements : (delimited : Bool) (stop start : ℕ) → Reading Elements) (items : (next : ℕ) → Reading Items) (at : ℕ)
+    → ItemHeader → Reading Items
+byItem elements items at (ItemHeader.refused f) = fault f
+byItem elements items at (ItemHeader.ends next) = read last next
+byItem elements items at (ItemHeader.item start stop delimited) = do
   (inside, next) ← elements delimited stop start
   (rest, after) ← items next
   read (item at inside rest) after
 
--- Fragments are one fragment and the rest: "Their bytes aren't looked into". Handed in are the refusal, by its number, at this offset,
--- and the reader of the rest.
-unfoldable pub byFragment : (refuse : (number : ℕ) → Answer) (parts : (next : ℕ) → Reading (List Span)) → ItemHeader → Reading (List Span)
-byFragment refuse parts (itemHeader.Refused number) = fault (refuse number)
-byFragment refuse parts (itemHeader.End next) = read [] next
-byFragment refuse parts (itemHeader.Item start stop delimited) = do
+-- Fragments are one fragment and the rest: "Nothing inside a fragment .. is examined." (2.19). Handed in is the reader of the rest.
+unfoldable pub byFragment : (parts : (next : ℕ) → Reading (List Span)) → ItemHeader → Reading (List Span)
+byFragment parts (ItemHeader.refused f) = fault f
+byFragment parts (ItemHeader.ends next) = read [] next
+byFragment parts (ItemHeader.item start stop delimited) = do
   (rest, after) ← parts stop
   read (span start stop ∷ rest) after
+
+-- "A sequence may stand at levels 0 to 15" (2.3), so that at the top 16 levels are left
+abbrev pub levels : ℕ
+levels = 16
+
+-- How many levels are left in the items of a sequence that stands where `left` are: one less (2.3). More than 16 are left nowhere in a data
+-- set; a caller's number above 16 counts as 16 (docs/DECISIONS.md, R16).
+unfoldable pub deeper : (left : ℕ) → ℕ
+deeper left = (if ltb levels left then levels else left) - 1
 
 module _ (h : Headers) where
   -- The recursion counts down a number (fuel), one for each header on the way. Where it is used up the fault's number is 0, which
@@ -96,15 +96,14 @@ module _ (h : Headers) where
   -- them: there it only says at which level the OB stands, and nothing is read by it.
   unfoldable pub fragmentsBy : ℕ → List ℕ → (left stop at : ℕ) → Reading (List Span)
   fragmentsBy zero d left stop at = fault (refusal at 0)
-  fragmentsBy (suc n) d left stop at = byFragment (refusal at) (fragmentsBy n d left stop) (h .item d false true stop at)
+  fragmentsBy (suc n) d left stop at = byFragment (fragmentsBy n d left stop) (h .item d false true stop at)
 
-  -- "elements in the items of a level n sequence are at level n+1"; tag order starts anew in each item
+  -- "those in the items of a sequence at level n are at level n + 1" (2.3); tag order starts anew in each item
   unfoldable mutual
     pub elementsBy : ℕ → List ℕ → (delimited : Bool) (left stop at least : ℕ) → Reading Elements
     elementsBy zero d delimited left stop at least = fault (refusal at 0)
     elementsBy (suc n) d delimited left stop at least =
         byHeader
-        (refusal at)
         (λ inner end start. itemsBy n d inner left end start)
         (fragmentsBy n d left stop)
         at
@@ -115,8 +114,7 @@ module _ (h : Headers) where
     itemsBy zero d delimited left stop at = fault (refusal at 0)
     itemsBy (suc n) d delimited left stop at =
         byItem
-        (refusal at)
-        (λ inner end start. elementsBy n d inner (left - 1) end start 0)
+        (λ inner end start. elementsBy n d inner (deeper left) end start 0)
         (λ next. itemsBy n d delimited left stop next)
         at
         (h .item d true delimited stop at)
@@ -134,17 +132,13 @@ module _ (h : Headers) where
   -- what is read at `at` in an element's place
   unfoldable pub oneAt : List ℕ → (delimited : Bool) (left stop at least : ℕ) → Reading One
   oneAt d delimited left stop at least =
-      byHeader (refusal at) (λ inner. itemsAt d inner left) (fragmentsAt d left stop) at (h .element d delimited left stop at least)
+      byHeader (λ inner. itemsAt d inner left) (fragmentsAt d left stop) at (h .element d delimited left stop at least)
 
--- "At most 1,048,576 bytes"
+-- "at most 1,048,576 bytes" (2.1)
 abbrev pub sizeLimit : ℕ
 sizeLimit = 1048576
 
--- "a sequence at level 16 is refused with 8", so that at the top 16 levels are left
-abbrev pub levels : ℕ
-levels = 16
-
--- the reading of a whole data set, which "may be empty". 1: "data set over the size", before anything is read
+-- the reading of a whole data set, which "may have none". "A data set that is larger than 2.1 allows gives 1, and nothing of it is read." (2.21)
 unfoldable pub dataSet : List ℕ → Reading Elements
 dataSet d = if ltb sizeLimit (length d) then fault (answer.refused 1 0) else elementsAt explicit d false levels (length d) 0 0
 
@@ -161,15 +155,26 @@ treeOf (read es next) = es
 abbrev pub tree : List ℕ → Elements
 tree d = treeOf (dataSet d)
 
--- well-formed, a term of 01 ("The stream"): "A data set is well-formed when none of the conditions 1 to 8 holds for it.": a tree is read
+-- well-formed, a term of RULES: "a data set for which none of the numbers 1 to 8 has its condition met" (2.22): a tree is read
 abbrev pub WellFormed : List ℕ → Type 0
 WellFormed d = (es : Elements) × (next : ℕ) × (dataSet d ≡ read es next)
 
--- ---- what the reader of one element answers of a reading
+-- ---- what the reader of one element hands on
 
--- the fault, the end, or an element: its tag, its VR, where its value lies and the offset past it. OneOutcome, with its fields
--- (src/reading.rt): Refused answer | End next | Element tag vr start end next
-abbrev pub oneOutcomeOf : Reading One → OneOutcome
-oneOutcomeOf (fault f) = one.Refused f
-oneOutcomeOf (read ended next) = one.End next
-oneOutcomeOf (read (element e) next) = one.Element (tagOf e) (vrOf e) (spanOf e .start) (spanOf e .end) next
+-- an element's tag, its VR, and where its value lies
+pub record Outline : Type 0 where
+  pub tag : ℕ
+  pub vr : ℕ
+  pub span : Span
+
+-- of a reading: the fault; or none, where the data set ends, or an element's outline; and the offset past it
+abbrev pub handedOn : Reading One → Reading (Option Outline)
+handedOn (fault f) = fault f
+handedOn (read ended next) = read Opt.none next
+handedOn (read (element e) next) = read (some (record { tag = tagOf e; vr = vrOf e; span = spanOf e })) next
+
+-- the cases of OneOutcome (src/reading.rt), by their values (13.2); a refusal has its number, the other two number 0
+abbrev pub oneCase : OneOutcome → Reading (Option Outline)
+oneCase (one.Refused f) = fault f
+oneCase (one.End next) = read Opt.none next
+oneCase (one.Element tag vr start end next) = read (some (record { tag = tag; vr = vr; span = span start end })) next

@@ -7,9 +7,9 @@ use mathlib.Core.List.{List}
 use lib.ListN.{length, take}
 use Rattle.answer.specs.declared.Answer.{Answer}
 use Rattle.dataset.specs.Bytes.{OfBytes}
-use Rattle.dataset.specs.Header.{itemAt}
+use Rattle.dataset.specs.Header.{elementAt, itemAt}
 use Rattle.dataset.specs.Tree.{Elements}
-use Rattle.dataset.specs.Reading.{fault, read, _>>=_, explicit, byOne, byItem, byFragment, fragmentsBy, elementsBy, itemsBy, elementsAt, itemsAt, fragmentsAt, oneAt, refusal, sizeLimit, levels, dataSet, answerOf, WellFormed}
+use Rattle.dataset.specs.Reading.{fault, read, _>>=_, explicit, byOne, byItem, byFragment, fragmentsBy, elementsBy, itemsBy, elementsAt, itemsAt, fragmentsAt, oneAt, sizeLimit, levels, deeper, dataSet, answerOf, WellFormed}
 use Rattle.dataset.specs.Lookup.{found}
 use Rattle.dataset.specs.declared.lookup.Found.{Found}
 use Rattle.dataset.specs.Order.{ElementsFill}
@@ -53,7 +53,7 @@ FilledIsRead =
     (d : List ℕ) (es : Elements) (next : ℕ) → OfBytes d → length d ≤ sizeLimit → ElementsFill es d false levels (length d) 0 0 next
     → dataSet d ≡ read es next
 
--- "The first fault from the left is given": what stands behind the header that a fault speaks of, which has at most 12 bytes, does not
+-- "Of several faults the leftmost is given." (2.20): what stands behind the header that a fault speaks of, which has at most 12 bytes, does not
 -- change it.
 abbrev pub FirstFault : Type 0
 FirstFault =
@@ -77,12 +77,20 @@ pub record Equations (d : List ℕ) (delimited : Bool) (left stop at : ℕ) : Ty
       ≡ (oneAt explicit d delimited left stop at least >>= byOne (elementsAt explicit d delimited left stop))
   pub items :
       itemsAt explicit d delimited left stop at
-      ≡ byItem (refusal at) (λ inner end start. elementsAt explicit d inner (left - 1) end start 0) (itemsAt explicit d delimited left stop) at
+      ≡ byItem (λ inner end start. elementsAt explicit d inner (deeper left) end start 0) (itemsAt explicit d delimited left stop) at
       (itemAt d true delimited stop at)
-  pub fragments : fragmentsAt explicit d left stop at ≡ byFragment (refusal at) (fragmentsAt explicit d left stop) (itemAt d false true stop at)
+  pub fragments : fragmentsAt explicit d left stop at ≡ byFragment (fragmentsAt explicit d left stop) (itemAt d false true stop at)
 
 abbrev pub Unfolds : Type 0
 Unfolds = (d : List ℕ) (delimited : Bool) (left stop at : ℕ) → at ≤ stop → Equations d delimited left stop at
+
+-- A caller's levels above 16 count as 16, for a header and for a whole element: no call goes deeper than the reading of a data set does.
+pub record AsAtTheTop (d : List ℕ) (delimited : Bool) (left stop at least : ℕ) : Type 0 where
+  pub header : elementAt d delimited left stop at least ≡ elementAt d delimited levels stop at least
+  pub one : oneAt explicit d delimited left stop at least ≡ oneAt explicit d delimited levels stop at least
+
+abbrev pub LevelsCount : Type 0
+LevelsCount = (d : List ℕ) (delimited : Bool) (left stop at least : ℕ) → levels ≤ left → AsAtTheTop d delimited left stop at least
 
 -- What the lookup finds lies in the data set. Its answer is the reading's. The tag stands only in a well-formed data set; where it does not
 -- stand, the part is the empty one at the end.
@@ -105,4 +113,5 @@ pub record Theorems : Type 0 where
   pub first-fault : FirstFault
   pub fuel-suffices : FuelSuffices
   pub unfolds : Unfolds
+  pub levels-count : LevelsCount
   pub value-inside : ValueInside

@@ -1,4 +1,4 @@
--- What is read: "a data set holds sequences, a sequence holds items, an item is a data set" (01, "Reading the data set"). Offsets stand in
+-- What is read: "a sequence holds items; and each item is again a data set" (RULES, 2.2). Offsets stand in
 -- the tree; the bytes stand in the data set. Assumes nothing.
 use Prim.Native.Nat.{ℕ}
 use mathlib.Core.List.{List}

@@ -1,4 +1,4 @@
--- The VRs: 01, "Reading the data set", the lists of the short and the long form. Assumes nothing.
+-- The VRs, and the form of a VR's header: RULES, 2.6 and 2.7. Assumes nothing.
 use Prim.Native.Nat.{ℕ}
 use mathlib.Core.Bool.{Bool, false, _||_}
 use mathlib.Core.List.{List, [], _∷_}
@@ -63,13 +63,13 @@ U = 0x55
 abbrev W : ℕ
 W = 0x57
 
--- "Short, two-byte length: AE AS AT CS DA DS DT FL FD IS LO LT PN SH SL SS ST TM UI UL US."
+-- 2.6: "Short form, with a length of two bytes: AE AS AT CS DA DS DT FL FD IS LO LT PN SH SL SS ST TM UI UL US."
 abbrev pub shortForm : List ℕ
 shortForm =
     vr A E ∷ vr A S ∷ vr A T ∷ vr C S ∷ vr D A ∷ vr D S ∷ vr D T ∷ vr F L ∷ vr F D ∷ vr I S ∷ vr L O ∷ vr L T ∷ vr P N
     ∷ vr S H ∷ vr S L ∷ vr S S ∷ vr S T ∷ vr T M ∷ vr U I ∷ vr U L ∷ vr U S ∷ []
 
--- "Long, two reserved zero bytes, then a four-byte length: OB OW OF SQ UT UN."
+-- 2.7: "Long form, with two reserved bytes, both zero, and then a length of four bytes: OB OW OF SQ UT UN."
 abbrev pub longForm : List ℕ
 longForm = vr O B ∷ vr O W ∷ vr O F ∷ vr S Q ∷ vr U T ∷ vr U N ∷ []
 
@@ -100,6 +100,6 @@ unfoldable pub oneOf : ℕ → List ℕ → Bool
 oneOf v [] = false
 oneOf v (x ∷ xs) = eqb v x || oneOf v xs
 
--- the form of a VR's header, or "VR in neither list"
+-- the form of a VR's header; or neither, where the VR is in neither list
 unfoldable pub formOf : ℕ → Form
 formOf v = if oneOf v shortForm then Short else if oneOf v longForm then Long else Neither

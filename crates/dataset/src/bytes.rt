@@ -2,7 +2,13 @@
 ghost use mathlib.Core.Path.{_≡_};
 ghost use Prim.Native.Nat.{_+_, _<_, _≤_};
 ghost use lib.ListN.{length};
-ghost use Rattle.dataset.specs.Bytes.{num16, num32, tagAt, tagIn, vrAt};
+ghost use Rattle.dataset.specs.Bytes.{num16, num32, tagAt, tagIn, tagCase, vrAt};
+
+// The tag at a place, or none.
+pub enum TagIn {
+    Absent,
+    Tag(u32),
+}
 
 fn wide(b: u8) -> u32
     ensures { λ r. ⌜ (r ≡ b) × (r < 256) ⌝ }
@@ -40,17 +46,17 @@ pub(crate) fn tag_at(d: &[u8], i: usize) -> u32
     number16(d, i) * 65536 + number16(d, i + 2)
 }
 
-// The tag at i, or 0 where four bytes do not stand there.
-pub fn tag_in(s: &[u8], i: usize) -> u32
-    ensures { λ r. ⌜ r ≡ tagIn (now (s .entry)) i ⌝ }
+// The tag at i, or none where four bytes do not stand there.
+pub fn tag_in(s: &[u8], i: usize) -> TagIn
+    ensures { λ r. ⌜ tagCase r ≡ tagIn (now (s .entry)) i ⌝ }
 {
     if s.len() < 4 {
-        return 0;
+        return TagIn::Absent;
     }
     if s.len() - 4 < i {
-        return 0;
+        return TagIn::Absent;
     }
-    tag_at(s, i)
+    TagIn::Tag(tag_at(s, i))
 }
 
 // The VR of the element at i.

@@ -2,15 +2,17 @@
 use crate::bytes;
 use crate::vr;
 use crate::vr::Form;
+use answer::Answer;
 ghost use mathlib.Core.Path.{_≡_};
 ghost use Prim.Native.Nat.{_+_, _≤_};
 ghost use lib.ListN.{length};
-ghost use Rattle.dataset.specs.Header.{badLength, tooDeep, undefinedBy, definedBy, valueBy, longAt, vrOnAt, endsAt, closedBy, elementAt, itemBy, itemAt};
+ghost use Rattle.dataset.specs.Header as spec;
+ghost use Rattle.dataset.specs.Header.{elementCase, itemCase, refusal, badLength, tooDeep, undefinedBy, definedBy, valueBy, longAt, vrOnAt, endsAt, closedBy, elementAt, itemBy, itemAt};
 
 // What stands in an element's place.
 pub enum ElementHeader {
-    // refused, with this number
-    Refused(u8),
+    // refused, at this header
+    Refused(Answer),
     // the data set ends here; what follows it is at this offset
     End(usize),
     // a value that is not looked into, from start to end
@@ -36,8 +38,8 @@ pub enum ElementHeader {
 
 // What stands in an item's or a fragment's place.
 pub enum ItemHeader {
-    // refused, with this number
-    Refused(u8),
+    // refused, at this header
+    Refused(Answer),
     // the items or fragments end here; what follows them is at this offset
     End(usize),
     // from start up to end, or to an item delimiter before end
@@ -56,9 +58,23 @@ const ITEM_DELIMITER: u32 = 0xFFFEE00D;
 
 const SEQUENCE_DELIMITER: u32 = 0xFFFEE0DD;
 
+// The refusal of the header at `at`, in an element's place.
+fn refused_element(at: usize, number: u8) -> ElementHeader
+    ensures { λ r. ⌜ elementCase r ≡ spec.ElementHeader.refused (refusal at number) ⌝ }
+{
+    ElementHeader::Refused(Answer::refused(number, at))
+}
+
+// The refusal of the header at `at`, in the place of an item or a fragment.
+fn refused_item(at: usize, number: u8) -> ItemHeader
+    ensures { λ r. ⌜ itemCase r ≡ spec.ItemHeader.refused (refusal at number) ⌝ }
+{
+    ItemHeader::Refused(Answer::refused(number, at))
+}
+
 // A value, or a sequence of defined length.
 fn defined_by(tag: u32, vr: u16, start: usize, end: usize) -> ElementHeader
-    ensures { λ r. ⌜ r ≡ definedBy tag vr start end ⌝ }
+    ensures { λ r. ⌜ elementCase r ≡ definedBy tag vr start end ⌝ }
 {
     if vr == vr::SQ {
         return ElementHeader::Sequence {
@@ -78,7 +94,7 @@ fn defined_by(tag: u32, vr: u16, start: usize, end: usize) -> ElementHeader
 
 // A sequence of undefined length, or fragments.
 fn undefined_by(tag: u32, vr: u16, stop: usize, start: usize) -> ElementHeader
-    ensures { λ r. ⌜ r ≡ undefinedBy tag vr stop start ⌝ }
+    ensures { λ r. ⌜ elementCase r ≡ undefinedBy tag vr stop start ⌝ }
 {
     if vr == vr::SQ {
         return ElementHeader::Sequence {
@@ -108,22 +124,30 @@ fn too_deep(vr: u16, left: u32) -> bool
     (vr == vr::SQ) & (left == 0)
 }
 
-// The checks of a length and a value that starts at `start`: 7, 8 and the last 2.
-fn value_by(tag: u32, vr: u16, left: u32, stop: usize, start: usize, len: usize) -> ElementHeader
+// The checks of a length and a value that starts at `start`, in the element at `at`: 7, 8 and the last 2.
+fn value_by(
+    tag: u32,
+    vr: u16,
+    left: u32,
+    stop: usize,
+    at: usize,
+    start: usize,
+    len: usize,
+) -> ElementHeader
     requires { ⌜ start ≤ stop ⌝ }
-    ensures { λ r. ⌜ r ≡ valueBy tag vr left stop start len ⌝ }
+    ensures { λ r. ⌜ elementCase r ≡ valueBy tag vr left stop at start len ⌝ }
 {
     if bad_length(vr, len) {
-        return ElementHeader::Refused(7);
+        return refused_element(at, 7);
     }
     if too_deep(vr, left) {
-        return ElementHeader::Refused(8);
+        return refused_element(at, 8);
     }
     if len == UNDEFINED {
         return undefined_by(tag, vr, stop, start);
     }
     if stop - start < len {
-        return ElementHeader::Refused(2);
+        return refused_element(at, 2);
     }
     defined_by(tag, vr, start, start + len)
 }
@@ -149,37 +173,37 @@ fn closed_by(d: &[u8], delimiter: u32, delimited: bool, at: usize) -> bool
 // The checks at an element of the long form, from its second test of the bytes left on.
 fn long_form(d: &[u8], tag: u32, vr: u16, left: u32, stop: usize, at: usize) -> ElementHeader
     requires { ⌜ (at ≤ stop) × (stop ≤ length (now d)) ⌝ }
-    ensures { λ r. ⌜ r ≡ longAt (now (d .entry)) tag vr left stop at ⌝ }
+    ensures { λ r. ⌜ elementCase r ≡ longAt (now (d .entry)) tag vr left stop at ⌝ }
 {
     if stop - at < 12 {
-        return ElementHeader::Refused(2);
+        return refused_element(at, 2);
     }
     if bytes::number16(d, at + 6) != 0 {
-        return ElementHeader::Refused(6);
+        return refused_element(at, 6);
     }
     let len = bytes::number32(d, at + 8);
-    value_by(tag, vr, left, stop, at + 12, len as usize)
+    value_by(tag, vr, left, stop, at, at + 12, len as usize)
 }
 
 // The checks at an element from its VR on.
 fn vr_on(d: &[u8], tag: u32, left: u32, stop: usize, at: usize) -> ElementHeader
     requires { ⌜ (at + 8 ≤ stop) × (stop ≤ length (now d)) ⌝ }
-    ensures { λ r. ⌜ r ≡ vrOnAt (now (d .entry)) tag left stop at ⌝ }
+    ensures { λ r. ⌜ elementCase r ≡ vrOnAt (now (d .entry)) tag left stop at ⌝ }
 {
     let vr = bytes::vr_at(d, at);
     match vr::form_of(vr) {
         Form::Short => {
             let len = bytes::number16(d, at + 6);
-            value_by(tag, vr, left, stop, at + 8, len as usize)
+            value_by(tag, vr, left, stop, at, at + 8, len as usize)
         }
         Form::Long => long_form(d, tag, vr, left, stop, at),
-        Form::Neither => ElementHeader::Refused(5),
+        Form::Neither => refused_element(at, 5),
     }
 }
 
 // What stands at `at` in an element's place: the checks at one element, in their order. The extent ends at `stop`, or before
-// it at an item delimiter (`delimited`); `left` is how many levels of sequences may follow, and `least` the least tag that
-// is above the one before. A stop past the data, or an at past stop, is 2.
+// it at an item delimiter (`delimited`); `left` is how many levels of sequences may follow (above 16 as 16), and `least` the
+// least tag that is above the one before. A stop past the data, or an at past stop, is 2.
 pub fn header(
     d: &[u8],
     delimited: bool,
@@ -188,37 +212,37 @@ pub fn header(
     at: usize,
     least: u64,
 ) -> ElementHeader
-    ensures { λ r. ⌜ r ≡ elementAt (now (d .entry)) delimited left stop at least ⌝ }
+    ensures { λ r. ⌜ elementCase r ≡ elementAt (now (d .entry)) delimited left stop at least ⌝ }
 {
     if d.len() < stop {
-        return ElementHeader::Refused(2);
+        return refused_element(at, 2);
     }
     if stop < at {
-        return ElementHeader::Refused(2);
+        return refused_element(at, 2);
     }
     if ends_at(delimited, stop, at) {
         return ElementHeader::End(at);
     }
     if stop - at < 8 {
-        return ElementHeader::Refused(2);
+        return refused_element(at, 2);
     }
     if closed_by(d, ITEM_DELIMITER, delimited, at) {
         return ElementHeader::End(at + 8);
     }
     if bytes::number16(d, at) == 0xFFFE {
-        return ElementHeader::Refused(3);
+        return refused_element(at, 3);
     }
     let tag = bytes::tag_at(d, at);
     if (tag as u64) < least {
-        return ElementHeader::Refused(4);
+        return refused_element(at, 4);
     }
     vr_on(d, tag, left, stop, at)
 }
 
-// An item or a fragment by its length.
-fn item_by(in_sequence: bool, stop: usize, start: usize, len: usize) -> ItemHeader
+// The item or fragment at `at`, by its length.
+fn item_by(in_sequence: bool, stop: usize, at: usize, start: usize, len: usize) -> ItemHeader
     requires { ⌜ start ≤ stop ⌝ }
-    ensures { λ r. ⌜ r ≡ itemBy in_sequence stop start len ⌝ }
+    ensures { λ r. ⌜ itemCase r ≡ itemBy in_sequence stop at start len ⌝ }
 {
     if len == UNDEFINED {
         if in_sequence {
@@ -228,13 +252,13 @@ fn item_by(in_sequence: bool, stop: usize, start: usize, len: usize) -> ItemHead
                 delimited: true,
             };
         }
-        return ItemHeader::Refused(7);
+        return refused_item(at, 7);
     }
     if len % 2 == 1 {
-        return ItemHeader::Refused(7);
+        return refused_item(at, 7);
     }
     if stop - start < len {
-        return ItemHeader::Refused(2);
+        return refused_item(at, 2);
     }
     ItemHeader::Item {
         start,
@@ -252,26 +276,26 @@ pub fn item_header(
     stop: usize,
     at: usize,
 ) -> ItemHeader
-    ensures { λ r. ⌜ r ≡ itemAt (now (d .entry)) in_sequence delimited stop at ⌝ }
+    ensures { λ r. ⌜ itemCase r ≡ itemAt (now (d .entry)) in_sequence delimited stop at ⌝ }
 {
     if d.len() < stop {
-        return ItemHeader::Refused(2);
+        return refused_item(at, 2);
     }
     if stop < at {
-        return ItemHeader::Refused(2);
+        return refused_item(at, 2);
     }
     if ends_at(delimited, stop, at) {
         return ItemHeader::End(at);
     }
     if stop - at < 8 {
-        return ItemHeader::Refused(2);
+        return refused_item(at, 2);
     }
     if closed_by(d, SEQUENCE_DELIMITER, delimited, at) {
         return ItemHeader::End(at + 8);
     }
     if bytes::tag_at(d, at) != ITEM {
-        return ItemHeader::Refused(3);
+        return refused_item(at, 3);
     }
     let len = bytes::number32(d, at + 4);
-    item_by(in_sequence, stop, at + 8, len as usize)
+    item_by(in_sequence, stop, at, at + 8, len as usize)
 }

@@ -8,7 +8,8 @@ use answer::Answer;
 ghost use mathlib.Core.Path.{_≡_};
 ghost use Prim.Native.Nat.{_<_, _≤_};
 ghost use lib.ListN.{length};
-ghost use Rattle.dataset.specs.Reading.{explicit, elementsAt, itemsAt, fragmentsAt, oneAt, oneOutcomeOf, answerOf, dataSet};
+ghost use Rattle.dataset.specs.Reading.{explicit, elementsAt, itemsAt, fragmentsAt, oneAt, handedOn, oneCase, answerOf, dataSet};
+ghost use Rattle.dataset.specs.Reading as spec;
 ghost use Rattle.dataset.specs.Inner.Outcomes.{outcomeOf, PastDelimiter, holdingOf};
 
 // How many bytes a data set may have.
@@ -16,6 +17,19 @@ pub const SIZE_LIMIT: usize = 1048576;
 
 // How many levels of sequences may follow at the top.
 pub const LEVELS: u32 = 16;
+
+// How many levels are left in the items of a sequence that stands where `left` are; a number above LEVELS counts as LEVELS.
+pub fn deeper(left: u32) -> u32
+    ensures { λ r. ⌜ r ≡ spec.deeper left ⌝ }
+{
+    if LEVELS < left {
+        return LEVELS - 1;
+    }
+    if left == 0 {
+        return 0;
+    }
+    left - 1
+}
 
 // What a reader answers: the first fault, or the offset past what it read.
 pub(crate) enum Outcome {
@@ -47,7 +61,7 @@ fn read_fragments(d: &[u8], left: u32, stop: usize, from: usize) -> Outcome
     let mut at = from;
     loop {
         match header::item_header(d, false, true, stop, at) {
-            ItemHeader::Refused(number) => return Outcome::Refused(Answer::refused(number, at)),
+            ItemHeader::Refused(fault) => return Outcome::Refused(fault),
             ItemHeader::End(next) => return Outcome::Next(next),
             ItemHeader::Item {
                 start: _,
@@ -87,7 +101,7 @@ fn holding(tag: u32, vr: u16, start: usize, delimited: bool, inside: Outcome) ->
 }
 
 // Reads what stands at `at` in an element's place: its header, and its items or fragments. Parameters as of header::header; a
-// stop past the data, or an at past stop, is 2 at `at`. A caller passes at most LEVELS for `left`: the stack grows with it.
+// stop past the data, or an at past stop, is 2 at `at`.
 pub fn read_one(
     d: &[u8],
     delimited: bool,
@@ -96,10 +110,10 @@ pub fn read_one(
     at: usize,
     least: u64,
 ) -> OneOutcome
-    ensures { λ r. ⌜ r ≡ oneOutcomeOf (oneAt explicit (now (d .entry)) delimited left stop at least) ⌝ }
+    ensures { λ r. ⌜ oneCase r ≡ handedOn (oneAt explicit (now (d .entry)) delimited left stop at least) ⌝ }
 {
     match header::header(d, delimited, left, stop, at, least) {
-        ElementHeader::Refused(number) => OneOutcome::Refused(Answer::refused(number, at)),
+        ElementHeader::Refused(fault) => OneOutcome::Refused(fault),
         ElementHeader::End(next) => OneOutcome::End(next),
         ElementHeader::Value {
             tag,
@@ -162,14 +176,14 @@ fn read_items(d: &[u8], delimited: bool, left: u32, stop: usize, from: usize) ->
     let mut at = from;
     loop {
         match header::item_header(d, true, delimited, stop, at) {
-            ItemHeader::Refused(number) => return Outcome::Refused(Answer::refused(number, at)),
+            ItemHeader::Refused(fault) => return Outcome::Refused(fault),
             ItemHeader::End(next) => return Outcome::Next(next),
             ItemHeader::Item {
                 start,
                 end,
                 delimited: inner,
             } => {
-                match read_elements(d, inner, left - 1, end, start) {
+                match read_elements(d, inner, deeper(left), end, start) {
                     Outcome::Refused(fault) => return Outcome::Refused(fault),
                     Outcome::Next(next) => at = next,
                 }

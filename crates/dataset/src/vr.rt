@@ -21,7 +21,7 @@ pub(crate) enum Form {
     Short,
     // two reserved bytes and a four-byte length
     Long,
-    // "VR in neither list"
+    // the VR is in neither list
     Neither,
 }
 

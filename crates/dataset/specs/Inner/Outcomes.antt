@@ -3,7 +3,8 @@
 use Prim.Native.Nat.{ℕ, _-_, _≤_}
 use mathlib.Core.Bool.{Bool}
 use Rattle.answer.specs.If.{if_then_else_}
-use Rattle.dataset.specs.Reading.{Reading, fault, read}
+use Rattle.dataset.specs.Tree.{tagOf, vrOf, spanOf}
+use Rattle.dataset.specs.Reading.{Reading, fault, read, One, ended, element}
 use Rattle.dataset.specs.declared.lookup.Found.{Found}
 use Rattle.dataset.specs.declared.reading.Outcome.{Outcome}
 use Rattle.dataset.specs.declared.reading.Outcome.the-variants as outcome
@@ -14,6 +15,12 @@ use Rattle.dataset.specs.declared.reading.OneOutcome.the-variants as one
 abbrev pub outcomeOf : {A : Type 0} → Reading A → Outcome
 outcomeOf (fault f) = outcome.Refused f
 outcomeOf (read a next) = outcome.Next next
+
+-- the fault, the end, or an element: the answer of the reader of one element
+abbrev pub oneOutcomeOf : Reading One → OneOutcome
+oneOutcomeOf (fault f) = one.Refused f
+oneOutcomeOf (read ended next) = one.End next
+oneOutcomeOf (read (element e) next) = one.Element (tagOf e) (vrOf e) (spanOf e .start) (spanOf e .end) next
 
 -- what was read has room for a closing delimiter, of 8 bytes
 abbrev pub PastDelimiter : Outcome → Type 0

@@ -5,9 +5,15 @@ use borrow.Author.Needs.{needs}
 use Rattle.dataset.proofs.header.header.Statement.{statement}
 use Rattle.dataset.proofs.header.header.Tie as tie
 
+refused-element-requires : tie.Need-refused-element-requires
+refused-element-requires c κs = search needs
+
 returns : tie.Need-returns
 unfolding elementAt
 returns c = search (checks.checks, checks.results, checks.handed) depth 20
+
+refused-element-requires-2 : tie.Need-refused-element-requires-2
+refused-element-requires-2 c κs = search needs
 
 returns-2 : tie.Need-returns-2
 unfolding elementAt
@@ -19,6 +25,9 @@ ends-at-requires c κs = search needs
 returns-3 : tie.Need-returns-3
 unfolding elementAt
 returns-3 c = search (checks.checks, checks.results, checks.handed) depth 20
+
+refused-element-requires-3 : tie.Need-refused-element-requires-3
+refused-element-requires-3 c κs = search needs
 
 returns-4 : tie.Need-returns-4
 unfolding elementAt
@@ -37,6 +46,9 @@ returns-5 c = search (checks.checks, checks.results, checks.handed) depth 20
 number16-requires : tie.Need-number16-requires
 number16-requires c κs = search needs
 
+refused-element-requires-4 : tie.Need-refused-element-requires-4
+refused-element-requires-4 c κs = search needs
+
 returns-6 : tie.Need-returns-6
 unfolding elementAt
 returns-6 c = search (checks.checks, checks.results, checks.handed) depth 20
@@ -46,6 +58,9 @@ tag-at-requires c κs = search needs
 
 cast-if7 : tie.Need-cast-if7
 cast-if7 c = search needs
+
+refused-element-requires-5 : tie.Need-refused-element-requires-5
+refused-element-requires-5 c κs = search needs
 
 returns-7 : tie.Need-returns-7
 unfolding elementAt
@@ -62,18 +77,23 @@ pub header-spec : {M : Type 1} → statement M
 header-spec =
     tie.close
     (tie.spec
+    refused-element-requires
     returns
+    refused-element-requires-2
     returns-2
     ends-at-requires
     returns-3
+    refused-element-requires-3
     returns-4
     closed-by-requires
     add-t12
     returns-5
     number16-requires
+    refused-element-requires-4
     returns-6
     tag-at-requires
     cast-if7
+    refused-element-requires-5
     returns-7
     vr-on-requires
     returns-8)

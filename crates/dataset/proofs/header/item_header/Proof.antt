@@ -5,9 +5,15 @@ use borrow.Author.Needs.{needs}
 use Rattle.dataset.proofs.header.item_header.Statement.{statement}
 use Rattle.dataset.proofs.header.item_header.Tie as tie
 
+refused-item-requires : tie.Need-refused-item-requires
+refused-item-requires c κs = search needs
+
 returns : tie.Need-returns
 unfolding itemAt
 returns c = search (checks.checks, checks.results, checks.handed) depth 20
+
+refused-item-requires-2 : tie.Need-refused-item-requires-2
+refused-item-requires-2 c κs = search needs
 
 returns-2 : tie.Need-returns-2
 unfolding itemAt
@@ -19,6 +25,9 @@ ends-at-requires c κs = search needs
 returns-3 : tie.Need-returns-3
 unfolding itemAt
 returns-3 c = search (checks.checks, checks.results, checks.handed) depth 20
+
+refused-item-requires-3 : tie.Need-refused-item-requires-3
+refused-item-requires-3 c κs = search needs
 
 returns-4 : tie.Need-returns-4
 unfolding itemAt
@@ -36,6 +45,9 @@ returns-5 c = search (checks.checks, checks.results, checks.handed) depth 20
 
 tag-at-requires : tie.Need-tag-at-requires
 tag-at-requires c κs = search needs
+
+refused-item-requires-4 : tie.Need-refused-item-requires-4
+refused-item-requires-4 c κs = search needs
 
 returns-6 : tie.Need-returns-6
 unfolding itemAt
@@ -64,15 +76,19 @@ pub item-header-spec : {M : Type 1} → statement M
 item-header-spec =
     tie.close
     (tie.spec
+    refused-item-requires
     returns
+    refused-item-requires-2
     returns-2
     ends-at-requires
     returns-3
+    refused-item-requires-3
     returns-4
     closed-by-requires
     add-t11
     returns-5
     tag-at-requires
+    refused-item-requires-4
     returns-6
     add-number32
     number32-requires

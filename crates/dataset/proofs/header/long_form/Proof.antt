@@ -8,6 +8,9 @@ use Rattle.dataset.proofs.header.long_form.Tie as tie
 sub-if1 : tie.Need-sub-if1
 sub-if1 c = search needs
 
+refused-element-requires : tie.Need-refused-element-requires
+refused-element-requires c κs = search needs
+
 returns : tie.Need-returns
 unfolding longAt
 returns c = search (checks.checks, checks.results, checks.handed) depth 16
@@ -17,6 +20,9 @@ add-number16 c = search needs
 
 number16-requires : tie.Need-number16-requires
 number16-requires c κs = search needs
+
+refused-element-requires-2 : tie.Need-refused-element-requires-2
+refused-element-requires-2 c κs = search needs
 
 returns-2 : tie.Need-returns-2
 unfolding longAt
@@ -46,9 +52,11 @@ long-form-spec =
     tie.close
     (tie.spec
     sub-if1
+    refused-element-requires
     returns
     add-number16
     number16-requires
+    refused-element-requires-2
     returns-2
     add-number32
     number32-requires

@@ -8,12 +8,18 @@ use Rattle.dataset.proofs.header.value_by.Tie as tie
 bad-length-requires : tie.Need-bad-length-requires
 bad-length-requires c κs = search needs
 
+refused-element-requires : tie.Need-refused-element-requires
+refused-element-requires c κs = search needs
+
 returns : tie.Need-returns
 unfolding valueBy
 returns c = search (checks.checks, checks.results)
 
 too-deep-requires : tie.Need-too-deep-requires
 too-deep-requires c κs = search needs
+
+refused-element-requires-2 : tie.Need-refused-element-requires-2
+refused-element-requires-2 c κs = search needs
 
 returns-2 : tie.Need-returns-2
 unfolding valueBy
@@ -28,6 +34,9 @@ returns-3 c = search (checks.checks, checks.results)
 
 sub-if4 : tie.Need-sub-if4
 sub-if4 c = search needs
+
+refused-element-requires-3 : tie.Need-refused-element-requires-3
+refused-element-requires-3 c κs = search needs
 
 returns-4 : tie.Need-returns-4
 unfolding valueBy
@@ -48,12 +57,15 @@ value-by-spec =
     tie.close
     (tie.spec
     bad-length-requires
+    refused-element-requires
     returns
     too-deep-requires
+    refused-element-requires-2
     returns-2
     undefined-by-requires
     returns-3
     sub-if4
+    refused-element-requires-3
     returns-4
     add-defined-by
     defined-by-requires

@@ -37,6 +37,9 @@ long-form-requires c κs = search needs
 enum-told-3 : tie.Need-enum-told-3
 enum-told-3 c = search needs
 
+refused-element-requires : tie.Need-refused-element-requires
+refused-element-requires c κs = search needs
+
 returns : tie.Need-returns
 returns c = search checks.short-form
 
@@ -61,6 +64,7 @@ vr-on-spec =
     enum-told-2
     long-form-requires
     enum-told-3
+    refused-element-requires
     returns
     returns-2
     returns-3)
