@@ -16,9 +16,9 @@ use Rattle.dataset.specs.Tree.{Elements}
 use Rattle.dataset.specs.Reading.{fault, read, sizeLimit}
 use Rattle.mac.specs.TagList.{tagsIn, badSize, ascendingAnswer, unbarredAnswer, listAnswer}
 use Rattle.mac.specs.Modes.{answerFrom13}
-use Rattle.mac.specs.Result.{Result, outputAfter, Streamed}
+use Rattle.mac.specs.Result.{Result, outputAfter}
 use Rattle.mac.specs.Inner.Extent.{Lies, elementsIn, wholeOf}
-use Rattle.mac.specs.Inner.Calls.{wholeStream, AnsweredFrom13, CallAnswered}
+use Rattle.mac.specs.Inner.Calls.{wholeStream, Left, AnsweredFrom13, CallAnswered}
 use Rattle.mac.specs.declared.extent.Extent.{Extent}
 use Rattle.mac.specs.declared.modes.SignatureItem.{SignatureItem}
 
@@ -70,7 +70,7 @@ module _ (call : Option (List ℕ) → Result) (l d : List ℕ) (x : Extent) (fo
       → ((expected : Option (List ℕ)) → _≡_ {A = Result} (record { answer = answerFrom13 (tagsIn l) es (wholeStream (tagsIn l) es d follows) (length out) expected; stream = wholeStream (tagsIn l) es d follows; expected = expected }) (call expected))
       → CallAnswered call bad out r ys
   call-read es next e h q = record {
-    streamed = λ expected b. subst (λ (c : Result). Streamed c out r ys) (q expected) (t .streamed es next e expected b);
+    streamed = λ expected b. subst (λ (c : Result). Left c out r ys) (q expected) (t .streamed es next e expected b);
     long = λ expected z. t .long es next e z ∙ ap (λ (c : Result). length (c .stream)) (q expected);
     room = t .room;
     short = λ z. omega (arith, t .short z);

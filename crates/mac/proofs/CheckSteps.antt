@@ -1,5 +1,7 @@
 -- The verdict of a check, place by place, with the facts of the place as premises. Assumes nothing.
 use Prim.Native.Nat.{ℕ, suc, _+_, _≤_, _<_}
+use mir.Syntax.{w8}
+use mir.Val.{Fits}
 use mathlib.Core.Path.{_≡_, refl, sym, ap, _∙_}
 use mathlib.Core.Bool.{Bool, true, false, _&&_}
 use mathlib.Core.List.{List, [], _∷_, _++_}
@@ -16,7 +18,7 @@ use Rattle.digest.specs.Message.{limit, digestOf, hashing}
 use Rattle.digest.specs.Sha256.{sha256}
 use Rattle.digest.specs.declared.message.Hashed.{Hashed}
 use Rattle.mac.specs.Modes.{badDigestLength}
-use Rattle.mac.specs.Result.{Result, outputAfter, compared, verdictOf, Streamed, CheckedAs}
+use Rattle.mac.specs.Result.{Result, outputAfter, same, differs, verdictCode, compared, verdictOf, Streamed, CheckedAs}
 use Rattle.mac.specs.Bytes.{sameBytes}
 use Rattle.mac.specs.Inner.Verdict.{CheckOf}
 use Rattle.mac.specs.Inner.Calls.{CallAnswered}
@@ -66,11 +68,11 @@ module _ (a b : List ℕ) (i : ℕ) (s : SameLoop a b i) (h : length a ≡ lengt
 
 -- ---- the verdict
 module _ (digest expected : List ℕ) (b : Bool) (e : b ≡ sameBytes digest expected) where
-  pub says-same : b ≡ true → verdict.Same ≡ compared (some expected) digest
+  pub says-same : b ≡ true → same ≡ compared (some expected) digest
   unfolding if_then_else_
   says-same t = rw (← e, t)
 
-  pub says-differs : b ≡ false → verdict.Differs ≡ compared (some expected) digest
+  pub says-differs : b ≡ false → differs ≡ compared (some expected) digest
   unfolding if_then_else_
   says-differs t = rw (← e, t)
 
@@ -83,7 +85,7 @@ module _ (a : Answer) (expected work : List ℕ) where
   pub check-refused : (a .number ≡ 0 → ⊥) → CheckOf a expected work (record { answer = a; verdict = verdict.Neither })
   check-refused h = record { answers = refl; refused = λ k. refl; says = λ z. absurd (h z) }
 
-  pub check-said : (g : Hashed) (v : Verdict) → a .number ≡ 0 → g ≡ hashing sha256 (take (a .length) work) → v ≡ compared (some expected) (g .digest)
+  pub check-said : (g : Hashed) (v : Verdict) → a .number ≡ 0 → g ≡ hashing sha256 (take (a .length) work) → verdictCode v ≡ compared (some expected) (g .digest)
       → CheckOf a expected work (record { answer = a; verdict = v })
   check-said g v h q w = record { answers = refl; refused = λ k. absurd (k h); says = λ z. w ∙ ap (λ (x : Hashed). compared (some expected) (x .digest)) q }
 
@@ -91,10 +93,15 @@ pub check-count : (a : Answer) (work : List ℕ) → (a .number ≡ 0 → a .len
 check-count a work h z = sym (length-take-le (a .length) work (h z))
 
 -- ---- a call in either mode
-pub call-streamed : (call : Option (List ℕ) → Result) (out after : List ℕ) (a : Answer) → CallAnswered call false out a after → Streamed (call Opt.none) out a after
-call-streamed call out after a s = s .streamed Opt.none refl
 
-module _ (call : Option (List ℕ) → Result) (expected work after : List ℕ) (a : Answer) (bad : Bool) (n : bad ≡ badDigestLength (some expected))
+-- the elements of a slice of bytes fit a byte
+abbrev pub AllFit : List ℕ → Type 0
+AllFit d = (i : ℕ) → Fits w8 (getD d i 0)
+
+pub call-streamed : (call : Option (List ℕ) → Result) (d out after : List ℕ) (a : Answer) → CallAnswered call false out a after → AllFit d → Streamed (call Opt.none) d out a after
+call-streamed call d out after a s b = let t = s .streamed Opt.none refl in record { answers = t .answers; output = t .output; bytes = λ i. b i .fits }
+
+module _ (call : Option (List ℕ) → Result) (d expected work after : List ℕ) (a : Answer) (bad : Bool) (n : bad ≡ badDigestLength (some expected))
     (s : CallAnswered call bad work a after) where
   pub call-room : length after ≡ length work → a .number ≡ 0 → a .length ≤ length after
   call-room k h = omega (arith, s .room h)
@@ -108,13 +115,13 @@ module _ (call : Option (List ℕ) → Result) (expected work after : List ℕ) 
       let y : after ≡ b ++ drop (length b) work = t .output ∙ rw (← t .answers, eq-eqb (a .number) 0 h) in
       rw y (take-at b (drop (length b) work) (a .length) (sym (s .long (some expected) h)))
 
-  pub call-checked : (r : Checked) → call (some expected) .expected ≡ some expected → CheckOf a expected after r → CheckedAs (call (some expected)) work r after
+  pub call-checked : (r : Checked) → call (some expected) .expected ≡ some expected → CheckOf a expected after r → AllFit d → CheckedAs (call (some expected)) d work r after
   unfolding verdictOf if_then_else_
-  call-checked r e k =
+  call-checked r e k b =
       let t = s .streamed (some expected) (sym n) in
-      record { answers = k .answers ∙ t .answers; says = go (eqb (a .number) 0) refl; output = t .output }
+      record { answers = k .answers ∙ t .answers; says = go (eqb (a .number) 0) refl; output = t .output; bytes = λ i. b i .fits }
     where
-      go : (b : Bool) → eqb (a .number) 0 ≡ b → r .verdict ≡ verdictOf (call (some expected))
+      go : (b : Bool) → eqb (a .number) 0 ≡ b → verdictCode (r .verdict) ≡ verdictOf (call (some expected))
       go true q =
           let z = eqb-true (a .number) 0 q in
           let b = call (some expected) .stream in

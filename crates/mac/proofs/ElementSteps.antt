@@ -13,9 +13,10 @@ use Rattle.answer.specs.declared.Answer.{Answer}
 use Rattle.answer.specs.If.{if_then_else_}
 use Rattle.dataset.specs.Bytes.{between}
 use Rattle.dataset.specs.Vr.{UN}
-use Rattle.dataset.specs.Header.{elementAt}
+use Rattle.dataset.specs.Header.{elementCase, elementAt}
+use Rattle.dataset.specs.Header as spec
 use Rattle.dataset.specs.Tree.{Span, span, Element, value, sequence, fragments, Items, tagOf}
-use Rattle.dataset.specs.Reading.{Reading, fault, read, _>>=_, One, ended, element, explicit, refusal, byHeader, itemsAt, fragmentsAt, oneAt}
+use Rattle.dataset.specs.Reading.{Reading, fault, read, _>>=_, One, ended, element, explicit, byHeader, itemsAt, fragmentsAt, oneAt}
 use Rattle.dataset.specs.declared.header.ElementHeader.{ElementHeader}
 use Rattle.dataset.specs.declared.header.ElementHeader.the-variants as header
 use Rattle.dataset.proofs.Bounds.{ElementFacts, value-start, element-facts}
@@ -53,22 +54,22 @@ holding-walk unknown stream d tag bytes (read a n) k make m h to past xs ys zs o
 
 -- ---- write_element: h stands at `at`
 module _ (d : List ℕ) (left stop at : ℕ) (h : ElementHeader) where
-  by : (p : ElementHeader) → h ≡ p → byHeaderAt d left stop at h ≡ byHeader (refusal at) (λ inner. itemsAt explicit d inner left) (fragmentsAt explicit d left stop) at p
+  by : (p : ElementHeader) → h ≡ p → byHeaderAt d left stop at (elementCase h) ≡ byHeader (λ inner. itemsAt explicit d inner left) (fragmentsAt explicit d left stop) at (elementCase p)
   unfolding byHeaderAt
   by p q = rw q
 
-  pub element-refused : (to number : ℕ) (f : Answer) (xs ys : List ℕ) → h ≡ header.Refused number → f ≡ refusal at number
-      → Walk (oneWalked every) (oneStream every) (byHeaderAt d left stop at h) d to (one.Refused f) xs ys
+  pub element-refused : (to : ℕ) (f : Answer) (xs ys : List ℕ) → h ≡ header.Refused f
+      → Walk (oneWalked every) (oneStream every) (byHeaderAt d left stop at (elementCase h)) d to (one.Refused f) xs ys
   unfolding byHeader oneWalked Leaves
-  element-refused to number f xs ys q g = rw (by (header.Refused number) q, g) record { answers = refl; output = tt }
+  element-refused to f xs ys q = rw (by (header.Refused f) q) record { answers = refl; output = tt }
 
-  pub element-end : (to next : ℕ) (xs : List ℕ) → h ≡ header.End next → Walk (oneWalked every) (oneStream every) (byHeaderAt d left stop at h) d to (one.End next) xs xs
+  pub element-end : (to next : ℕ) (xs : List ℕ) → h ≡ header.End next → Walk (oneWalked every) (oneStream every) (byHeaderAt d left stop at (elementCase h)) d to (one.End next) xs xs
   unfolding byHeader oneWalked oneStream Leaves
   element-end to next xs q = rw (by (header.End next) q) record { answers = refl; output = refl }
 
-  module _ (s : HeaderAt d left stop at h) where
-    facts : (p : ElementHeader) → h ≡ p → ElementFacts d (s .delimited) left stop at (s .least) p
-    facts p q = rw (sym (s .is) ∙ q) at (element-facts d (s .delimited) left stop at (s .least))
+  module _ (s : HeaderAt d left stop at (elementCase h)) where
+    facts : (p : ElementHeader) → h ≡ p → ElementFacts d (s .delimited) left stop at (s .least) (elementCase p)
+    facts p q = rw (sym (s .is) ∙ ap elementCase q) at (element-facts d (s .delimited) left stop at (s .least))
 
     module _ (tag vr start end : ℕ) (q : h ≡ header.Value tag vr start end) where
       pub value-order : at ≤ end
@@ -81,14 +82,14 @@ module _ (d : List ℕ) (left stop at : ℕ) (h : ElementHeader) where
       value-fits to b l m = record { fits = omega (arith, value-order, value-inside (length d) l) }
 
       pub element-value : (to : ℕ) (z : OneWritten) (xs ys : List ℕ) → stop ≤ length d → z ≡ one.Element tag (eqb vr UN) false end (to + (end - at))
-          → ys ≡ sets xs to (between d at end) → Walk (oneWalked every) (oneStream every) (byHeaderAt d left stop at h) d to z xs ys
+          → ys ≡ sets xs to (between d at end) → Walk (oneWalked every) (oneStream every) (byHeaderAt d left stop at (elementCase h)) d to z xs ys
       unfolding byHeader oneWalked oneStream every Leaves streamOf holdsUN if_then_else_
       element-value to z xs ys l g y =
           let n = length-between d at end value-order (value-inside (length d) l) in
           rw (by (header.Value tag vr start end) q, g) record { answers = rw n; output = y }
 
     module _ (tag start end : ℕ) (inner : Bool) (q : h ≡ header.Sequence tag start end inner) where
-      sequence-facts : ElementFacts d (s .delimited) left stop at (s .least) (header.Sequence tag start end inner)
+      sequence-facts : ElementFacts d (s .delimited) left stop at (s .least) (elementCase (header.Sequence tag start end inner))
       sequence-facts = facts (header.Sequence tag start end inner) q
 
       pub sequence-level : 0 < left
@@ -114,7 +115,7 @@ module _ (d : List ℕ) (left stop at : ℕ) (h : ElementHeader) where
 
       pub element-sequence : (to : ℕ) (xs ys zs : List ℕ) (o : Written) (z : OneWritten) → ys ≡ sets xs to (between d at (at + 8))
           → Walk (walked itemsHoldUN itemsStream) itemsStream (itemsAt explicit d inner left end start) d (to + 8) o ys zs → z ≡ nestedWritten tag o
-          → Walk (oneWalked every) (oneStream every) (byHeaderAt d left stop at h) d to z xs zs
+          → Walk (oneWalked every) (oneStream every) (byHeaderAt d left stop at (elementCase h)) d to z xs zs
       unfolding byHeader streamOf holdsUN
       element-sequence to xs ys zs o z y w e =
           let n : length (between d at (at + 8)) ≡ 8 = length-between d at (at + 8) (omega arith) sequence-header ∙ omega arith in
@@ -124,7 +125,7 @@ module _ (d : List ℕ) (left stop at : ℕ) (h : ElementHeader) where
           to (to + 8) xs ys zs o z (rw n) y w e)
 
     module _ (tag start : ℕ) (q : h ≡ header.Fragments tag start) where
-      parts-facts : ElementFacts d (s .delimited) left stop at (s .least) (header.Fragments tag start)
+      parts-facts : ElementFacts d (s .delimited) left stop at (s .least) (elementCase (header.Fragments tag start))
       parts-facts = facts (header.Fragments tag start) q
 
       pub parts-room : (to : ℕ) → to ≤ at + length d → to + 8 + 4 ≤ start + length d
@@ -144,7 +145,7 @@ module _ (d : List ℕ) (left stop at : ℕ) (h : ElementHeader) where
 
       pub element-fragments : (to : ℕ) (xs ys zs : List ℕ) (o : Written) (z : OneWritten) → ys ≡ sets xs to (between d at (at + 8))
           → Walk (walked holdsNone fragmentsStream) fragmentsStream (fragmentsAt explicit d left stop start) d (to + 8) o ys zs → z ≡ nestedWritten tag o
-          → Walk (oneWalked every) (oneStream every) (byHeaderAt d left stop at h) d to z xs zs
+          → Walk (oneWalked every) (oneStream every) (byHeaderAt d left stop at (elementCase h)) d to z xs zs
       unfolding byHeader streamOf holdsUN holdsNone
       element-fragments to xs ys zs o z y w e =
           let n : length (between d at (at + 8)) ≡ 8 = length-between d at (at + 8) (omega arith) parts-header ∙ omega arith in
@@ -161,17 +162,17 @@ inside-tag tag (read a i) k make m t e n q =
     let x : make a i ≡ e = let y = m a i in cc in
     rw (← x) (t a i)
 
-header-keeps : (c : Keep) (refuse : ℕ → Answer) (items : Bool → ℕ → ℕ → Reading Items) (parts : ℕ → Reading (List Span)) (at : ℕ) (h : ElementHeader) (e : Element) (n : ℕ)
-    → byHeader refuse items parts at h ≡ read (element e) n → keeps c (tagOf e) ≡ keepsHeader c h
+header-keeps : (c : Keep) (items : Bool → ℕ → ℕ → Reading Items) (parts : ℕ → Reading (List Span)) (at : ℕ) (h : spec.ElementHeader) (e : Element) (n : ℕ)
+    → byHeader items parts at h ≡ read (element e) n → keeps c (tagOf e) ≡ keepsHeader c h
 unfolding byHeader
-header-keeps c refuse items parts at (header.Refused number) e n q = absurd (true≢false (cc))
-header-keeps c refuse items parts at (header.End next) e n q = absurd (true≢false (cc))
-header-keeps c refuse items parts at (header.Value tag vr start end) e n q =
+header-keeps c items parts at (spec.ElementHeader.refused f) e n q = absurd (true≢false (cc))
+header-keeps c items parts at (spec.ElementHeader.ends next) e n q = absurd (true≢false (cc))
+header-keeps c items parts at (spec.ElementHeader.value tag vr start end) e n q =
     let x : value at tag vr (span start end) ≡ e = cc in
     rw (← x)
-header-keeps c refuse items parts at (header.Sequence tag start end inner) e n q =
+header-keeps c items parts at (spec.ElementHeader.sequence tag start end inner) e n q =
     ap (keeps c) (inside-tag tag (items inner end start) _ (λ is m. sequence at tag (span start _) is) (λ is m. refl) (λ is m. refl) e n q)
-header-keeps c refuse items parts at (header.Fragments tag start) e n q =
+header-keeps c items parts at (spec.ElementHeader.fragments tag start) e n q =
     ap (keeps c) (inside-tag tag (parts start) _ (λ ss m. fragments at tag (span start (m - 8)) ss) (λ ss m. refl) (λ ss m. refl) e n q)
 
 module _ (c : Keep) (d : List ℕ) where
@@ -205,32 +206,32 @@ passed-walk : (c : Keep) (d : List ℕ) (at tag vr start end to : ℕ) (r : OneW
 unfolding oneWalked oneStream Leaves holdsUN if_then_else_
 passed-walk c d at tag vr start end to r xs t e = let z : to + 0 ≡ to = omega arith in record { answers = rw (t, e, z); output = rw t }
 
-module _ (d : List ℕ) (delimited : Bool) (left stop at least : ℕ) (h : ElementHeader) (g : h ≡ elementAt d delimited left stop at least) where
-  pub stands-here : HeaderAt d left stop at h
+module _ (d : List ℕ) (delimited : Bool) (left stop at least : ℕ) (h : ElementHeader) (g : elementCase h ≡ elementAt d delimited left stop at least) where
+  pub stands-here : HeaderAt d left stop at (elementCase h)
   stands-here = record { delimited = delimited; least = least; is = g }
 
-  one-is : oneAt explicit d delimited left stop at least ≡ byHeaderAt d left stop at h
+  one-is : oneAt explicit d delimited left stop at least ≡ byHeaderAt d left stop at (elementCase h)
   unfolding oneAt byHeaderAt
   one-is = rw g
 
-  kept-here : (c : Keep) (b : Bool) → b ≡ keepsHeader c h → Kept c d b (byHeaderAt d left stop at h)
+  kept-here : (c : Keep) (b : Bool) → b ≡ keepsHeader c (elementCase h) → Kept c d b (byHeaderAt d left stop at (elementCase h))
   unfolding byHeaderAt
-  kept-here c b k e n q = header-keeps c (refusal at) (λ inner. itemsAt explicit d inner left) (fragmentsAt explicit d left stop) at h e n q ∙ sym k
+  kept-here c b k e n q = header-keeps c (λ inner. itemsAt explicit d inner left) (fragmentsAt explicit d left stop) at (elementCase h) e n q ∙ sym k
 
-  pub one-kept : (c : Keep) (b : Bool) (to : ℕ) (r : OneWritten) (xs ys : List ℕ) → b ≡ keepsHeader c h → b ≡ true
-      → Walk (oneWalked every) (oneStream every) (byHeaderAt d left stop at h) d to r xs ys
+  pub one-kept : (c : Keep) (b : Bool) (to : ℕ) (r : OneWritten) (xs ys : List ℕ) → b ≡ keepsHeader c (elementCase h) → b ≡ true
+      → Walk (oneWalked every) (oneStream every) (byHeaderAt d left stop at (elementCase h)) d to r xs ys
       → Walk (oneWalked (keeps c)) (oneStream (keeps c)) (oneAt explicit d delimited left stop at least) d to r xs ys
-  one-kept c b to r xs ys k t w = rw one-is (kept-walk c d (byHeaderAt d left stop at h) (λ e n q. kept-here c b k e n q ∙ t) to r xs ys w)
+  one-kept c b to r xs ys k t w = rw one-is (kept-walk c d (byHeaderAt d left stop at (elementCase h)) (λ e n q. kept-here c b k e n q ∙ t) to r xs ys w)
 
-  pub one-left : (c : Keep) (b : Bool) (to past : ℕ) (o r : OneWritten) (xs ys zs : List ℕ) → b ≡ keepsHeader c h → b ≡ false
-      → Walk (oneWalked every) (oneStream every) (byHeaderAt d left stop at h) d past o ys zs → r ≡ withOffset o to
+  pub one-left : (c : Keep) (b : Bool) (to past : ℕ) (o r : OneWritten) (xs ys zs : List ℕ) → b ≡ keepsHeader c (elementCase h) → b ≡ false
+      → Walk (oneWalked every) (oneStream every) (byHeaderAt d left stop at (elementCase h)) d past o ys zs → r ≡ withOffset o to
       → Walk (oneWalked (keeps c)) (oneStream (keeps c)) (oneAt explicit d delimited left stop at least) d to r xs xs
   one-left c b to past o r xs ys zs k t w e =
-      rw one-is (left-walk c d (byHeaderAt d left stop at h) (λ x n q. kept-here c b k x n q ∙ t) to past o r xs ys zs w e)
+      rw one-is (left-walk c d (byHeaderAt d left stop at (elementCase h)) (λ x n q. kept-here c b k x n q ∙ t) to past o r xs ys zs w e)
 
-  pub one-passed : (c : Keep) (b : Bool) (to tag vr start end : ℕ) (z : OneWritten) (xs : List ℕ) → b ≡ keepsHeader c h → b ≡ false → h ≡ header.Value tag vr start end
+  pub one-passed : (c : Keep) (b : Bool) (to tag vr start end : ℕ) (z : OneWritten) (xs : List ℕ) → b ≡ keepsHeader c (elementCase h) → b ≡ false → h ≡ header.Value tag vr start end
       → z ≡ one.Element tag (eqb vr UN) false end to → Walk (oneWalked (keeps c)) (oneStream (keeps c)) (oneAt explicit d delimited left stop at least) d to z xs xs
   unfolding byHeaderAt byHeader
   one-passed c b to tag vr start end z xs k t q e =
-      let is : oneAt explicit d delimited left stop at least ≡ read (element (value at tag vr (span start end))) end = one-is ∙ ap (byHeaderAt d left stop at) q in
-      rw is (passed-walk c d at tag vr start end to z xs (sym (ap (keepsHeader c) q) ∙ sym k ∙ t) e)
+      let is : oneAt explicit d delimited left stop at least ≡ read (element (value at tag vr (span start end))) end = one-is ∙ ap (byHeaderAt d left stop at) (ap elementCase q) in
+      rw is (passed-walk c d at tag vr start end to z xs (sym (ap (keepsHeader c) (ap elementCase q)) ∙ sym k ∙ t) e)

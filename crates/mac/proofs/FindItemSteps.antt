@@ -1,14 +1,14 @@
 -- What one turn of the loop of `find_item` does, with the facts of the place as premises. Assumes nothing.
 use Prim.Native.Nat.{ℕ, _+_, _-_, _≤_, _<_}
-use mathlib.Core.Path.{_≡_, refl, sym, _∙_}
+use mathlib.Core.Path.{_≡_, refl, sym, ap, _∙_}
 use mathlib.Core.Bool.{Bool, true, false}
 use mathlib.Core.List.{List}
 use native.Mathlib.Omega.{arith}
 use Rattle.answer.specs.declared.Answer.{Answer}
 use Rattle.answer.specs.If.{if_then_else_}
-use Rattle.dataset.specs.Header.{itemAt}
+use Rattle.dataset.specs.Header.{itemCase, itemAt}
 use Rattle.dataset.specs.Tree.{Elements, Items}
-use Rattle.dataset.specs.Reading.{Reading, fault, read, _>>=_, explicit, refusal, byItem, elementsAt, itemsAt}
+use Rattle.dataset.specs.Reading.{Reading, fault, read, _>>=_, explicit, byItem, elementsAt, itemsAt, deeper}
 use Rattle.dataset.specs.Lookup.{elementOf}
 use Rattle.dataset.specs.declared.header.ItemHeader.{ItemHeader}
 use Rattle.dataset.specs.declared.header.ItemHeader.the-variants as item
@@ -58,24 +58,24 @@ module _ (d : List ℕ) (w : ItemKey) (at index : ℕ) (es : Elements) (z : Foun
   passed (read rest n) t h = rw t h
 
 -- ---- a turn of the loop: r is what stands at `at`
-module _ (d : List ℕ) (x : Extent) (at : ℕ) (r : ItemHeader) (e : r ≡ itemAt d true (x .delimited) (x .stop) at) (w : ItemKey) (index : ℕ)
+module _ (d : List ℕ) (x : Extent) (at : ℕ) (r : ItemHeader) (e : itemCase r ≡ itemAt d true (x .delimited) (x .stop) at) (w : ItemKey) (index : ℕ)
     (i : FindItemLoop d x w at index) where
   items-at : (h : ItemHeader) → r ≡ h → itemsFrom d x at
-      ≡ byItem (refusal at) (λ inner end start. elementsAt explicit d inner (x .left - 1) end start 0) (itemsFrom d x) at h
-  items-at h q = rw (items-are explicit explicit-bounded d (x .delimited) (x .left) (x .stop) at (i .inside), sym e ∙ q)
+      ≡ byItem (λ inner end start. elementsAt explicit d inner (deeper (x .left)) end start 0) (itemsFrom d x) at (itemCase h)
+  items-at h q = rw (items-are explicit explicit-bounded d (x .delimited) (x .left) (x .stop) at (i .inside), sym e ∙ ap itemCase q)
 
-  pub find-item-refused : (number : ℕ) → r ≡ item.Refused number → FoundItemIn d w 0 (itemsIn d x) found.Absent
+  pub find-item-refused : (f : Answer) → r ≡ item.Refused f → FoundItemIn d w 0 (itemsIn d x) found.Absent
   unfolding byItem
-  find-item-refused number q = i .on found.Absent (rw (items-at (item.Refused number) q) tt)
+  find-item-refused f q = i .on found.Absent (rw (items-at (item.Refused f) q) tt)
 
   pub find-item-end : (next : ℕ) → r ≡ item.End next → FoundItemIn d w 0 (itemsIn d x) found.Absent
   unfolding byItem firstItem
   find-item-end next q = i .on found.Absent (rw (items-at (item.End next) q) refl)
 
-  module _ (start end : ℕ) (inner : Bool) (q : r ≡ item.Item start end inner) where
+  module _ (start end : ℕ) (inner : Bool) (q : r ≡ item.Item start end inner) (levels : ℕ) (deep : levels ≡ deeper (x .left)) where
     -- the item's data set
     abbrev data-set : Extent
-    data-set = record { delimited = inner; left = x .left - 1; stop = end; from = start }
+    data-set = record { delimited = inner; left = levels; stop = end; from = start }
 
     item-span : ItemSpan d (x .stop) at start end inner
     item-span = item-at d (x .delimited) (x .stop) at r e (item.Item start end inner) q .0
@@ -89,7 +89,7 @@ module _ (d : List ℕ) (x : Extent) (at : ℕ) (r : ItemHeader) (e : r ≡ item
       unfolding byItem
       item-refused f m =
           i .on found.Absent
-          (rw (items-at (item.Item start end inner) q, sought-refused d macIdNumber dataElementsSigned (elementsIn d data-set) s f k m) tt)
+          (rw (items-at (item.Item start end inner) q, ← deep, sought-refused d macIdNumber dataElementsSigned (elementsIn d data-set) s f k m) tt)
 
       module _ (id list : Place) (next : ℕ) (m : s ≡ sought.Past id list next) where
         it : IsSought d macIdNumber dataElementsSigned (elementsIn d data-set) id list next
@@ -101,12 +101,12 @@ module _ (d : List ℕ) (x : Extent) (at : ℕ) (r : ItemHeader) (e : r ≡ item
         items-then : itemsFrom d x at
             ≡ (itemsFrom d x next >>= λ (rest, after). read (Items.item at (it .what) rest) after)
         unfolding byItem
-        items-then = rw (items-at (item.Item start end inner) q, it .is)
+        items-then = rw (items-at (item.Item start end inner) q, ← deep, it .is)
 
         past : (at < next) × (next ≤ x .stop)
         past =
             let j = item-span in
-            let n = elements-next d (x .left - 1) end start next (j .order) inner 0 (rw (it .is)) in
+            let n = elements-next d levels end start next (j .order) inner 0 (rw (it .is)) in
             omega (arith, j, n)
 
         pub find-item-less : x .stop - next < x .stop - at

@@ -10,9 +10,9 @@ use lib.ListN.{length}
 use lib.Seq.{sets}
 use Rattle.answer.specs.declared.Answer.{Answer}
 use Rattle.dataset.specs.Bytes.{between}
-use Rattle.dataset.specs.Header.{itemAt}
+use Rattle.dataset.specs.Header.{itemCase, itemAt}
 use Rattle.dataset.specs.Tree.{Span, span}
-use Rattle.dataset.specs.Reading.{fault, explicit, refusal, byFragment, fragmentsAt}
+use Rattle.dataset.specs.Reading.{explicit, byFragment, fragmentsAt}
 use Rattle.dataset.specs.declared.header.ItemHeader.{ItemHeader}
 use Rattle.dataset.specs.declared.header.ItemHeader.the-variants as place
 use Rattle.dataset.proofs.Bounds.{ItemFacts, item-facts}
@@ -44,20 +44,20 @@ unfolding holdsNone fragmentsStream
 fragment-front d s = record { streams = λ ss. refl; finds = λ ss. refl }
 
 -- r is what stands at `at`
-module _ (d : List ℕ) (left stop from : ℕ) (xs₀ : List ℕ) (to₀ : ℕ) (xs : List ℕ) (at to : ℕ) (r : ItemHeader) (e : r ≡ itemAt d false true stop at)
+module _ (d : List ℕ) (left stop from : ℕ) (xs₀ : List ℕ) (to₀ : ℕ) (xs : List ℕ) (at to : ℕ) (r : ItemHeader) (e : itemCase r ≡ itemAt d false true stop at)
     (i : FragmentsLoop d left stop from xs₀ to₀ xs at to) where
-  here : (p : ItemHeader) → r ≡ p → ItemFacts d false true stop at p
-  here p q = rw (sym e ∙ q) at (item-facts d false true stop at)
+  here : (p : ItemHeader) → r ≡ p → ItemFacts d false true stop at (itemCase p)
+  here p q = rw (sym e ∙ ap itemCase q) at (item-facts d false true stop at)
 
-  fragments-at : (p : ItemHeader) → r ≡ p → fragmentsAt explicit d left stop at ≡ byFragment (refusal at) (fragmentsAt explicit d left stop) p
-  fragments-at p q = rw (fragments-are explicit explicit-bounded d left stop at (i .inside), sym e ∙ q)
+  fragments-at : (p : ItemHeader) → r ≡ p → fragmentsAt explicit d left stop at ≡ byFragment (fragmentsAt explicit d left stop) (itemCase p)
+  fragments-at p q = rw (fragments-are explicit explicit-bounded d left stop at (i .inside), sym e ∙ ap itemCase q)
 
-  pub fragments-refused : (number : ℕ) (f : Answer) (ys : List ℕ) → r ≡ place.Refused number → f ≡ refusal at number
+  pub fragments-refused : (f : Answer) (ys : List ℕ) → r ≡ place.Refused f
       → Walk (walked holdsNone fragmentsStream) fragmentsStream (fragmentsAt explicit d left stop from) d to₀ (written.Refused f) xs₀ ys
   unfolding byFragment
-  fragments-refused number f ys q g =
+  fragments-refused f ys q =
       stop-at holdsNone fragmentsStream d (fragmentsAt explicit d left stop from) to₀ xs₀ (fragmentsAt explicit d left stop at) false to xs (i .going) f ys
-      (fragments-at (place.Refused number) q ∙ ap fault (sym g))
+      (fragments-at (place.Refused f) q)
 
   pub fragments-end : (next : ℕ) (ys : List ℕ) → r ≡ place.End next → ys ≡ sets xs to sequenceDelimiterBytes
       → Walk (walked holdsNone fragmentsStream) fragmentsStream (fragmentsAt explicit d left stop from) d to₀ (written.Past false next (to + 4)) xs₀ ys

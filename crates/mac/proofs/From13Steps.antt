@@ -18,9 +18,9 @@ use Rattle.dataset.specs.Tree.{Elements}
 use Rattle.dataset.specs.Reading.{Reading, fault, read}
 use Rattle.mac.specs.TagList.{tagsIn, listAnswer}
 use Rattle.mac.specs.Modes.{tagsAnswer, badDigestLength, answerFrom13}
-use Rattle.mac.specs.Result.{Result, outputAfter, Streamed}
+use Rattle.mac.specs.Result.{Result, outputAfter}
 use Rattle.mac.specs.Inner.Extent.{Lies, elementsIn}
-use Rattle.mac.specs.Inner.Calls.{wholeStream, walkAnswer, StreamLeaves, StreamWalk, ReadFrom13, AnsweredFrom13, AnsweredFrom10}
+use Rattle.mac.specs.Inner.Calls.{wholeStream, walkAnswer, StreamLeaves, StreamWalk, ReadFrom13, AnsweredFrom13, AnsweredFrom10, Left}
 use Rattle.mac.specs.declared.extent.Extent.{Extent}
 use Rattle.mac.specs.declared.modes.SignatureItem.{SignatureItem}
 use Rattle.mac.proofs.From13Answers.{from13-accepted}
@@ -52,7 +52,7 @@ module _ (l d : List ℕ) (x : Extent) (follows : SignatureItem) (bad : Bool) (o
       abbrev result : Result
       result = record { answer = whole; stream = all; expected = expected }
 
-      leaves-out : (a : Answer) → a ≡ whole → (a .number ≡ 0 → ⊥) → Streamed result out a out
+      leaves-out : (a : Answer) → a ≡ whole → (a .number ≡ 0 → ⊥) → Left result out a out
       unfolding outputAfter if_then_else_
       leaves-out a q h = record { answers = q; output = rw (← q, ne-eqb (a .number) 0 h) }
 
@@ -79,7 +79,7 @@ module _ (l d : List ℕ) (x : Extent) (follows : SignatureItem) (bad : Bool) (o
             from13-accepted (tagsIn l) es all (length out) expected
             (record { found = found h; digest = b ∙ k; fits = le-ltb (length out) (length all) j })
 
-        written-out : (r : Answer) (ys : List ℕ) → bad ≡ false → length all ≤ length out → r ≡ accepted (length all) → ys ≡ sets out 0 all → Streamed result out r ys
+        written-out : (r : Answer) (ys : List ℕ) → bad ≡ false → length all ≤ length out → r ≡ accepted (length all) → ys ≡ sets out 0 all → Left result out r ys
         unfolding outputAfter if_then_else_
         written-out r ys k j q o =
             record {

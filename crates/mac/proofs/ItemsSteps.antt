@@ -1,5 +1,5 @@
 -- What one turn of the loop of `write_items` does, with the facts of the place as premises. Assumes nothing.
-use Prim.Native.Nat.{ℕ, _+_, _-_, _≤_, _<_}
+use Prim.Native.Nat.{ℕ, _+_, _-_, _*_, _≤_, _<_}
 use mathlib.Core.Path.{_≡_, refl, sym, ap, _∙_, subst}
 use mathlib.Core.Bool.{Bool, true, false, _||_, true≢false}
 use mathlib.Core.List.{List, _++_, append-assoc}
@@ -7,13 +7,14 @@ use native.Mathlib.Omega.{arith}
 use lib.ListN.{length}
 use lib.Seq.{sets}
 use Rattle.answer.specs.declared.Answer.{Answer}
-use Rattle.dataset.specs.Header.{itemAt}
+use Rattle.dataset.specs.Header.{itemCase, itemAt}
 use Rattle.dataset.specs.Tree.{Elements, last, item}
-use Rattle.dataset.specs.Reading.{Reading, fault, read, _>>=_, explicit, refusal, byItem, elementsAt, itemsAt}
+use Rattle.dataset.specs.Reading.{Reading, fault, read, _>>=_, explicit, byItem, elementsAt, itemsAt, deeper}
 use Rattle.dataset.specs.declared.header.ItemHeader.{ItemHeader}
 use Rattle.dataset.specs.declared.header.ItemHeader.the-variants as place
 use Rattle.dataset.proofs.Bounds.{ItemFacts, item-facts}
 use Rattle.dataset.proofs.Bounded.{explicit-bounded}
+use Rattle.dataset.proofs.Levels.{deeper-falls}
 use Rattle.dataset.proofs.Unfolding.{items-are}
 use Rattle.dataset.proofs.Guarantees.{holds-read, ElementsIn, elements-read}
 use Rattle.mac.specs.Stream.{itemTagBytes, sequenceDelimiterBytes, elementsStream, itemsStream}
@@ -58,22 +59,26 @@ unfolding walked
 is-read (fault g) d to unknown next past e = absurd (true≢false (cc))
 is-read (read es n) d to unknown next past e = let q : n ≡ next = cc in record { what = es; is = ap (read es) q; holding = cc; passes = cc }
 
+-- the walk's measure falls from a sequence's items to the elements of an item
+pub elements-fall : (left l t : ℕ) → 0 < left → l ≡ deeper left → 4 * left ≡ t → 4 * l + 3 < t
+elements-fall left l t h e q = let k = deeper-falls left h in omega (arith, k, e, q)
+
 -- r is what stands at `at`
 module _ (d : List ℕ) (delimited : Bool) (left stop from : ℕ) (xs₀ : List ℕ) (to₀ : ℕ) (xs : List ℕ) (at : ℕ) (found : Bool) (to : ℕ)
-    (r : ItemHeader) (e : r ≡ itemAt d true delimited stop at) (i : ItemsLoop d delimited left stop from xs₀ to₀ xs at found to) where
-  here : (p : ItemHeader) → r ≡ p → ItemFacts d true delimited stop at p
-  here p q = rw (sym e ∙ q) at (item-facts d true delimited stop at)
+    (r : ItemHeader) (e : itemCase r ≡ itemAt d true delimited stop at) (i : ItemsLoop d delimited left stop from xs₀ to₀ xs at found to) where
+  here : (p : ItemHeader) → r ≡ p → ItemFacts d true delimited stop at (itemCase p)
+  here p q = rw (sym e ∙ ap itemCase q) at (item-facts d true delimited stop at)
 
   items-at : (p : ItemHeader) → r ≡ p → itemsAt explicit d delimited left stop at
-      ≡ byItem (refusal at) (λ inner end start. elementsAt explicit d inner (left - 1) end start 0) (itemsAt explicit d delimited left stop) at p
-  items-at p q = rw (items-are explicit explicit-bounded d delimited left stop at (i .inside), sym e ∙ q)
+      ≡ byItem (λ inner end start. elementsAt explicit d inner (deeper left) end start 0) (itemsAt explicit d delimited left stop) at (itemCase p)
+  items-at p q = rw (items-are explicit explicit-bounded d delimited left stop at (i .inside), sym e ∙ ap itemCase q)
 
-  pub items-refused : (number : ℕ) (f : Answer) (ys : List ℕ) → r ≡ place.Refused number → f ≡ refusal at number
+  pub items-refused : (f : Answer) (ys : List ℕ) → r ≡ place.Refused f
       → Walk (walked itemsHoldUN itemsStream) itemsStream (itemsAt explicit d delimited left stop from) d to₀ (written.Refused f) xs₀ ys
   unfolding byItem
-  items-refused number f ys q g =
+  items-refused f ys q =
       stop-at itemsHoldUN itemsStream d (itemsAt explicit d delimited left stop from) to₀ xs₀ (itemsAt explicit d delimited left stop at) found to xs (i .going) f ys
-      (items-at (place.Refused number) q ∙ ap fault (sym g))
+      (items-at (place.Refused f) q)
 
   pub items-end : (next : ℕ) (ys : List ℕ) → r ≡ place.End next → ys ≡ sets xs to sequenceDelimiterBytes
       → Walk (walked itemsHoldUN itemsStream) itemsStream (itemsAt explicit d delimited left stop from) d to₀ (written.Past found next (to + 4)) xs₀ ys
@@ -93,23 +98,26 @@ module _ (d : List ℕ) (delimited : Bool) (left stop from : ℕ) (xs₀ : List 
     item-room = omega (arith, here (place.Item start end inner) q .0 .starts, i .below)
 
     -- o is what the walk over the item's elements answers, and zs what it leaves
-    module _ (l : stop ≤ length d) (ys zs : List ℕ) (o : Written)
-        (w : Walk (walked elementsHoldUN elementsStream) elementsStream (elementsAt explicit d inner (left - 1) end start 0) d (to + 4) o ys zs) where
+    module _ (l : stop ≤ length d) (levels : ℕ) (deep : levels ≡ deeper left) (ys zs : List ℕ) (o : Written)
+        (v : Walk (walked elementsHoldUN elementsStream) elementsStream (elementsAt explicit d inner levels end start 0) d (to + 4) o ys zs) where
+      w : Walk (walked elementsHoldUN elementsStream) elementsStream (elementsAt explicit d inner (deeper left) end start 0) d (to + 4) o ys zs
+      w = rw deep at v
+
       pub item-refused : (f : Answer) → o ≡ written.Refused f
           → Walk (walked itemsHoldUN itemsStream) itemsStream (itemsAt explicit d delimited left stop from) d to₀ (written.Refused f) xs₀ zs
       unfolding byItem
       item-refused f x =
           stop-at itemsHoldUN itemsStream d (itemsAt explicit d delimited left stop from) to₀ xs₀ (itemsAt explicit d delimited left stop at) found to xs (i .going) f zs
-          (items-at (place.Item start end inner) q ∙ rw (is-fault (elementsAt explicit d inner (left - 1) end start 0) d (to + 4) f (sym (w .answers) ∙ x)))
+          (items-at (place.Item start end inner) q ∙ rw (is-fault (elementsAt explicit d inner (deeper left) end start 0) d (to + 4) f (sym (w .answers) ∙ x)))
 
       module _ (unknown : Bool) (next past : ℕ) (x : o ≡ written.Past unknown next past) where
-        elements-found : IsRead (elementsAt explicit d inner (left - 1) end start 0) d (to + 4) unknown next past
-        elements-found = is-read (elementsAt explicit d inner (left - 1) end start 0) d (to + 4) unknown next past (sym (w .answers) ∙ x)
+        elements-found : IsRead (elementsAt explicit d inner (deeper left) end start 0) d (to + 4) unknown next past
+        elements-found = is-read (elementsAt explicit d inner (deeper left) end start 0) d (to + 4) unknown next past (sym (w .answers) ∙ x)
 
-        elements-lie : ElementsIn d inner (left - 1) end 0 start (elements-found .what) next
+        elements-lie : ElementsIn d inner (deeper left) end 0 start (elements-found .what) next
         elements-lie =
-            holds-read (ElementsIn d inner (left - 1) end 0 start) (elementsAt explicit d inner (left - 1) end start 0) (elements-found .what) next
-            (elements-read d (left - 1) end start (item-inside (length d) l) inner 0) (elements-found .is)
+            holds-read (ElementsIn d inner (deeper left) end 0 start) (elementsAt explicit d inner (deeper left) end start 0) (elements-found .what) next
+            (elements-read d (deeper left) end start (item-inside (length d) l) inner 0) (elements-found .is)
 
         pub item-less : stop - next < stop - at
         item-less =
@@ -128,7 +136,7 @@ module _ (d : List ℕ) (delimited : Bool) (left stop from : ℕ) (xs₀ : List 
         item-again y =
             let k = here (place.Item start end inner) q .0 in
             let f = elements-found in
-            let m = elements-length (f .what) d (left - 1) 0 start next (elements-lie .tree) in
+            let m = elements-length (f .what) d (deeper left) 0 start next (elements-lie .tree) in
             let t : to + length (itemTagBytes ++ elementsStream (f .what) d) ≡ to + 4 + length (elementsStream (f .what) d) = omega arith in
             record {
               inside = omega (arith, elements-lie .inside, k .inside);

@@ -3,6 +3,7 @@ use Prim.Native.Nat.{ℕ}
 use mathlib.Core.Path.{_≡_}
 use mathlib.Core.Bool.{Bool, not}
 use lib.Dec.{eqb}
+use Rattle.dataset.specs.Header.{elementCase}
 use Rattle.dataset.specs.declared.header.ElementHeader.{ElementHeader}
 use Rattle.dataset.specs.declared.header.ElementHeader.the-variants as header
 use Rattle.mac.specs.TagList.{barred}
@@ -17,11 +18,11 @@ pub only-is : (k : Keep) (tag wanted : ℕ) → k ≡ keep.Only wanted → eqb t
 only-is k tag wanted e = rw e
 
 module _ (k : Keep) (h : ElementHeader) (tag : ℕ) (b : Bool) (q : b ≡ keeps k tag) where
-  pub value-kept : (vr start end : ℕ) → h ≡ header.Value tag vr start end → b ≡ keepsHeader k h
+  pub value-kept : (vr start end : ℕ) → h ≡ header.Value tag vr start end → b ≡ keepsHeader k (elementCase h)
   value-kept vr start end e = rw e q
 
-  pub sequence-kept : (start end : ℕ) (delimited : Bool) → h ≡ header.Sequence tag start end delimited → b ≡ keepsHeader k h
+  pub sequence-kept : (start end : ℕ) (delimited : Bool) → h ≡ header.Sequence tag start end delimited → b ≡ keepsHeader k (elementCase h)
   sequence-kept start end delimited e = rw e q
 
-  pub fragments-kept : (start : ℕ) → h ≡ header.Fragments tag start → b ≡ keepsHeader k h
+  pub fragments-kept : (start : ℕ) → h ≡ header.Fragments tag start → b ≡ keepsHeader k (elementCase h)
   fragments-kept start e = rw e q

@@ -28,7 +28,7 @@ use Rattle.mac.specs.declared.extent.Extent.{Extent}
 use Rattle.mac.specs.declared.modes.SignatureItem.the-variants as signatureItem
 use Rattle.mac.specs.declared.verdict.Checked.{Checked}
 use Rattle.mac.proofs.CallSteps.{call-refused, call-fault, call-read}
-use Rattle.mac.proofs.CheckSteps.{call-streamed, call-room, call-checked}
+use Rattle.mac.proofs.CheckSteps.{AllFit, call-streamed, call-room, call-checked}
 
 module _ (l d : List ℕ) (bad : Bool) (out : List ℕ) where
   pub list-over : (a : Answer) → sizeLimit < length d → a ≡ refused 1 0 → CallAnswered (listCall l d out) bad out a out
@@ -88,13 +88,13 @@ module _ (l d : List ℕ) (bad : Bool) (out : List ℕ) where
         go false q = let k = eqb-false (f .number) 0 q in let v = t .refused k in rw (v .0, v .1) (list-refused k)
 
 -- ---- the calls
-pub list-streamed : (l d out after : List ℕ) (a : Answer) → CallAnswered (listCall l d out) false out a after → Streamed (result (streamCall l d out)) out a after
-list-streamed l d out after a s = call-streamed (listCall l d out) out after a s
+pub list-streamed : (l d out after : List ℕ) (a : Answer) → CallAnswered (listCall l d out) false out a after → AllFit d → Streamed (result (streamCall l d out)) d out a after
+list-streamed l d out after a = call-streamed (listCall l d out) d out after a
 
 module _ (l d expected work after : List ℕ) (a : Answer) (bad : Bool) (n : bad ≡ badDigestLength (some expected))
     (s : CallAnswered (listCall l d work) bad work a after) where
   pub list-room : length after ≡ length work → a .number ≡ 0 → a .length ≤ length after
-  list-room = call-room (listCall l d work) expected work after a bad n s
+  list-room = call-room (listCall l d work) d expected work after a bad n s
 
-  pub list-checked : (r : Checked) → CheckOf a expected after r → CheckedAs (result (checkCall l d expected work)) work r after
-  list-checked r k = call-checked (listCall l d work) expected work after a bad n s r refl k
+  pub list-checked : (r : Checked) → CheckOf a expected after r → AllFit d → CheckedAs (result (checkCall l d expected work)) d work r after
+  list-checked r = call-checked (listCall l d work) d expected work after a bad n s r refl

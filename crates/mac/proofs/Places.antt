@@ -9,12 +9,10 @@ use native.Mathlib.Omega.{arith}
 use lib.ListN.{length}
 use Rattle.answer.specs.If.{if_then_else_}
 use Rattle.answer.specs.declared.Answer.{Answer}
-use Rattle.dataset.specs.Header.{elementAt}
+use Rattle.dataset.specs.Header.{ElementHeader, elementAt}
 use Rattle.dataset.specs.Tree.{Span, span, Element, Elements, Items}
-use Rattle.dataset.specs.Reading.{Reading, fault, read, _>>=_, One, element, explicit, refusal, byHeader, elementsAt, itemsAt, fragmentsAt, oneAt}
+use Rattle.dataset.specs.Reading.{Reading, fault, read, _>>=_, One, element, explicit, byHeader, elementsAt, itemsAt, fragmentsAt, oneAt}
 use Rattle.dataset.specs.Lookup.{elementOf}
-use Rattle.dataset.specs.declared.header.ElementHeader.{ElementHeader}
-use Rattle.dataset.specs.declared.header.ElementHeader.the-variants as header
 use Rattle.dataset.proofs.Bounds.{ElementFacts, element-facts}
 use Rattle.mac.specs.Inner.Seek.{isThere, placeBy, ElementPlaced, Placed, SoughtIn, PlaceLies}
 use Rattle.mac.specs.declared.extent.Extent.{Extent}
@@ -36,19 +34,19 @@ elementsFrom d x at least = elementsAt explicit d (x .delimited) (x .left) (x .s
 -- ---- the element at `at` lies where its header places it
 module _ (d : List ℕ) (x : Extent) (at least : ℕ) (inside : x .stop ≤ length d) (e : Element) (next : ℕ) where
   by-header : (h : ElementHeader) → ElementFacts d (x .delimited) (x .left) (x .stop) at least h
-      → byHeader (refusal at) (λ inner. itemsAt explicit d inner (x .left)) (fragmentsAt explicit d (x .left) (x .stop)) at h ≡ read (element e) next
+      → byHeader (λ inner. itemsAt explicit d inner (x .left)) (fragmentsAt explicit d (x .left) (x .stop)) at h ≡ read (element e) next
       → ElementPlaced d e (placeBy (x .left) h)
   unfolding byHeader
-  by-header (header.Refused number) f q = absurd (true≢false (cc))
-  by-header (header.End n) f q = absurd (true≢false (cc))
-  by-header (header.Value tag vr start end) f q =
+  by-header (ElementHeader.refused g) f q = absurd (true≢false (cc))
+  by-header (ElementHeader.ends n) f q = absurd (true≢false (cc))
+  by-header (ElementHeader.value tag vr start end) f q =
       let k : Element.value at tag vr (span start end) ≡ e = cc in
       rw (← k) (refl, f .1 .order, omega (arith, f .1 .inside))
-  by-header (header.Sequence tag start end inner) f q = go (itemsAt explicit d inner (x .left) end start) refl q
+  by-header (ElementHeader.sequence tag start end inner) f q = go (itemsAt explicit d inner (x .left) end start) refl q
     where
       go : (o : Reading Items) → itemsAt explicit d inner (x .left) end start ≡ o
           → (o >>= λ (is, n). read (element (Element.sequence at tag (span start (if inner then n - 8 else n)) is)) n) ≡ read (element e) next
-          → ElementPlaced d e (placeBy (x .left) (header.Sequence tag start end inner))
+          → ElementPlaced d e (placeBy (x .left) (ElementHeader.sequence tag start end inner))
       go (fault g) w q = absurd (true≢false (cc))
       go (read is n) w q =
           let k : Element.sequence at tag (span start (if inner then n - 8 else n)) is ≡ e = cc in
@@ -57,7 +55,7 @@ module _ (d : List ℕ) (x : Extent) (at least : ℕ) (inside : x .stop ≤ leng
             refl,
             record { lies = record { order = f .2; inside = omega (arith, f .3) }; level = f .4; next = n; reads = w },
           )
-  by-header (header.Fragments tag start) f q = go (fragmentsAt explicit d (x .left) (x .stop) start) q
+  by-header (ElementHeader.fragments tag start) f q = go (fragmentsAt explicit d (x .left) (x .stop) start) q
     where
       go : (o : Reading (List Span)) → (o >>= λ (ss, n). read (element (Element.fragments at tag (span start (n - 8)) ss)) n) ≡ read (element e) next
           → ElementPlaced d e place.Fragments

@@ -12,8 +12,9 @@ use borrow.Author.Tests.{eq-eqb, ne-eqb}
 use Rattle.answer.specs.declared.Answer.{Answer}
 use Rattle.answer.specs.If.{if_then_else_}
 use Rattle.dataset.specs.Tree.{Element, Elements, tagOf}
-use Rattle.dataset.specs.Reading.{Reading, fault, read, _>>=_, One, ended, element, explicit, byOne, oneOutcomeOf}
+use Rattle.dataset.specs.Reading.{Reading, fault, read, _>>=_, One, ended, element, explicit, byOne, handedOn, oneCase}
 use Rattle.dataset.specs.Lookup.{elementOf}
+use Rattle.dataset.specs.Header.{elementCase}
 use Rattle.dataset.specs.declared.header.ElementHeader.{ElementHeader}
 use Rattle.dataset.specs.declared.header.ElementHeader.the-variants as header
 use Rattle.dataset.specs.declared.reading.OneOutcome.{OneOutcome}
@@ -21,7 +22,7 @@ use Rattle.dataset.specs.declared.reading.OneOutcome.the-variants as one
 use Rattle.dataset.proofs.Bounded.{explicit-bounded}
 use Rattle.dataset.proofs.Unfolding.{elements-are}
 use Rattle.dataset.proofs.Outcomes.{IsElement, is-one-fault, is-one-end}
-use Rattle.dataset.proofs.Steps.{one-found, one-past}
+use Rattle.dataset.proofs.Steps.{answered, one-found, one-past}
 use Rattle.mac.specs.Inner.Extent.{Lies, elementsIn}
 use Rattle.mac.specs.Inner.Seek.{isThere, placeBy, placeOn, Placed, SoughtIn}
 use Rattle.mac.specs.declared.extent.Extent.{Extent}
@@ -31,11 +32,11 @@ use Rattle.mac.specs.declared.seek.Sought.the-variants as sought
 use Rattle.mac.proofs.Places.{headerAt, oneFrom, elementsFrom, place-at, placed-there}
 
 -- ---- `place_by`
-pub by-value : (left tag vr start end : ℕ) (h : ElementHeader) → h ≡ header.Value tag vr start end → place.Value vr start end ≡ placeBy left h
+pub by-value : (left tag vr start end : ℕ) (h : ElementHeader) → h ≡ header.Value tag vr start end → place.Value vr start end ≡ placeBy left (elementCase h)
 by-value left tag vr start end h e = rw e
 
 pub by-sequence : (left tag start end : ℕ) (delimited : Bool) (h : ElementHeader) → h ≡ header.Sequence tag start end delimited
-    → place.Items (record { delimited = delimited; left = left; stop = end; from = start }) ≡ placeBy left h
+    → place.Items (record { delimited = delimited; left = left; stop = end; from = start }) ≡ placeBy left (elementCase h)
 by-sequence left tag start end delimited h e = rw e
 
 -- ---- `place_on`
@@ -49,7 +50,7 @@ module _ (d : List ℕ) (x : Extent) (at least : ℕ) (p : Place) (tag here : �
   on-there b h e t = rw (eq-eqb here tag h, sym e ∙ t)
 
   pub on-first : (b : Bool) (h : ElementHeader) (z : Place) → here ≡ tag → b ≡ isThere p → b ≡ false
-      → h ≡ headerAt d x at least → z ≡ placeBy (x .left) h → z ≡ placeOn d x at least p tag here
+      → elementCase h ≡ headerAt d x at least → z ≡ placeBy (x .left) (elementCase h) → z ≡ placeOn d x at least p tag here
   unfolding placeOn if_then_else_
   on-first b h z w e t q k = rw (eq-eqb here tag w, sym e ∙ t) (k ∙ rw q)
 
@@ -150,18 +151,18 @@ seen-read d tag tag′ f f′ (read es m) n p q h k e e′ =
     record { first = p; second = q; is = rw y; placed = rw z h; placed′ = rw z′ k }
 
 -- ---- a turn of the loop: r is what the reader of one element answers
-module _ (d : List ℕ) (x : Extent) (at least : ℕ) (r : OneOutcome) (e : r ≡ oneOutcomeOf (oneFrom d x at least))
+module _ (d : List ℕ) (x : Extent) (at least : ℕ) (r : OneOutcome) (e : oneCase r ≡ handedOn (oneFrom d x at least))
     (tag tag′ : ℕ) (p q : Place) (i : SeekLoop d x tag tag′ at least p q) where
   pub seek-refused : (f : Answer) → r ≡ one.Refused f → SoughtIn d tag tag′ (elementsIn d x) (sought.Refused f)
   unfolding seen
   seek-refused f w =
-      let k = left-is d x at least (i .inside) (fault f) (is-one-fault (oneFrom d x at least) f (sym e ∙ w)) in
+      let k = left-is d x at least (i .inside) (fault f) (is-one-fault (oneFrom d x at least) f (answered d (x .delimited) (x .left) (x .stop) at least r e (i .inside) ∙ w)) in
       rw (seen-fault tag (elementsIn d x) f (i .first .same ∙ rw k)) refl
 
   pub seek-end : (next : ℕ) → r ≡ one.End next → SoughtIn d tag tag′ (elementsIn d x) (sought.Past p q next)
   unfolding byOne
   seek-end next w =
-      let k = left-is d x at least (i .inside) (read ended next) (is-one-end (oneFrom d x at least) next (sym e ∙ w)) in
+      let k = left-is d x at least (i .inside) (read ended next) (is-one-end (oneFrom d x at least) next (answered d (x .delimited) (x .left) (x .stop) at least r e (i .inside) ∙ w)) in
       seen-read d tag tag′ (i .first .found) (i .second .found) (elementsIn d x) next p q (i .first .placed) (i .second .placed)
       (i .first .same ∙ rw k (seen-none tag (i .first .found) next))
       (i .second .same ∙ rw k (seen-none tag′ (i .second .found) next))

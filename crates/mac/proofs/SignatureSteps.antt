@@ -35,7 +35,7 @@ use Rattle.mac.specs.declared.selection.Selection.the-variants as select
 use Rattle.mac.specs.declared.signature_mode.Signature.{Signature}
 use Rattle.mac.specs.declared.verdict.Checked.{Checked}
 use Rattle.mac.proofs.CallSteps.{call-refused, call-read}
-use Rattle.mac.proofs.CheckSteps.{call-streamed, call-room, call-checked}
+use Rattle.mac.proofs.CheckSteps.{AllFit, call-streamed, call-room, call-checked}
 use Rattle.mac.proofs.SelectionNumbers.{selected-number}
 
 -- ---- what is selected: the list from start to end, and the signature item in the extent `item`
@@ -186,13 +186,13 @@ module _ (uid : List ℕ) (which : Signature) (d : List ℕ) (bad : Bool) (out :
 
 -- ---- the calls
 pub signature-streamed : (uid : List ℕ) (which : Signature) (d out after : List ℕ) (a : Answer) → CallAnswered (signatureCall uid which d out) false out a after
-    → Streamed (result (streamCall uid which d out)) out a after
-signature-streamed uid which d out after a s = call-streamed (signatureCall uid which d out) out after a s
+    → AllFit d → Streamed (result (streamCall uid which d out)) d out a after
+signature-streamed uid which d out after a = call-streamed (signatureCall uid which d out) d out after a
 
 module _ (uid : List ℕ) (which : Signature) (d expected work after : List ℕ) (a : Answer) (bad : Bool) (n : bad ≡ badDigestLength (some expected))
     (s : CallAnswered (signatureCall uid which d work) bad work a after) where
   pub signature-room : length after ≡ length work → a .number ≡ 0 → a .length ≤ length after
-  signature-room = call-room (signatureCall uid which d work) expected work after a bad n s
+  signature-room = call-room (signatureCall uid which d work) d expected work after a bad n s
 
-  pub signature-checked : (r : Checked) → CheckOf a expected after r → CheckedAs (result (checkCall uid which d expected work)) work r after
-  signature-checked r k = call-checked (signatureCall uid which d work) expected work after a bad n s r refl k
+  pub signature-checked : (r : Checked) → CheckOf a expected after r → AllFit d → CheckedAs (result (checkCall uid which d expected work)) d work r after
+  signature-checked r = call-checked (signatureCall uid which d work) d expected work after a bad n s r refl

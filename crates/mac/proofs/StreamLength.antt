@@ -5,6 +5,7 @@ use mathlib.Core.List.{List, [], _∷_, _++_}
 use native.Mathlib.Omega.{arith}
 use lib.ListN.{length, length-append, length-take}
 use Rattle.dataset.specs.Bytes.{between}
+use Rattle.dataset.specs.Reading.{deeper}
 use Rattle.dataset.specs.Tree.{Span, Element, value, sequence, fragments, Elements, none, and, Items, last, item, tagOf}
 use Rattle.dataset.proofs.Bounds.{value-start}
 use Rattle.dataset.proofs.Lies.{FragmentsLie, ElementLies, ElementsLie, ItemsLie}
@@ -60,7 +61,7 @@ mutual
   pub items-length : (is : Items) (d : List ℕ) (left at next : ℕ) → ItemsLie is d left at next → (at ≤ next) × (length (itemsStream is d) ≤ next - at + 4)
   items-length last d left at next r = (r .order, omega arith)
   items-length (item p es is) d left at next r =
-      let h = elements-length es d (left - 1) 0 (at + 8) (r .0) (r .3) in
+      let h = elements-length es d (deeper left) 0 (at + 8) (r .0) (r .3) in
       let k = items-length is d left (r .0) next (r .4) in
       let z = two itemTagBytes (elementsStream es d ++ itemsStream is d) 4 (r .0 - (at + 8) + (next - r .0 + 4)) (omega arith)
       (two (elementsStream es d) (itemsStream is d) (r .0 - (at + 8)) (next - r .0 + 4) (h .1) (k .1)) in

@@ -39,7 +39,7 @@ unfolding elementsAt
 fault-number d x f l e z =
     let w : Within {A = Elements} (x .from) (x .stop) (fault f) =
     rw e at (elements-within explicit explicit-bounded (suc (x .stop - x .from)) d (x .delimited) (x .left) (x .stop) (x .from) 0 (l .order) (omega arith)) in
-    omega (arith, w .number)
+    omega (arith, w .least)
 
 -- ---- the listed elements, and what follows them
 

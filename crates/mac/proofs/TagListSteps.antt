@@ -1,8 +1,10 @@
 -- The tags of a list, and what one turn of each check's loop does, with the facts of the place as premises.
 -- Assumes nothing.
 use Prim.Native.Nat.{ℕ, _+_, _*_, _/_, _≤_, _<_}
-use mathlib.Core.Path.{_≡_, refl, sym, _∙_}
-use mathlib.Core.Bool.{Bool, true, false}
+use mathlib.Core.Path.{_≡_, refl, sym, ap, _∙_}
+use mathlib.Core.Option.{some}
+use mathlib.Core.Option as Opt
+use mathlib.Core.Bool.{Bool, true, false, true≢false}
 use mathlib.Core.List.{List, [], _∷_}
 use native.Mathlib.Omega.{arith}
 use lib.ListN.{length, drop, getD, length-drop}
@@ -11,7 +13,9 @@ use borrow.Author.Tests.{lt-ltb, le-ltb, le-leb, eq-eqb, ne-eqb}
 use Rattle.answer.specs.declared.Answer.{Answer}
 use Rattle.answer.specs.If.{if_then_else_}
 use Rattle.answer.specs.Answer.{accepted, refused, _orElse_}
-use Rattle.dataset.specs.Bytes.{num16, tagAt, tagIn}
+use Rattle.dataset.specs.Bytes.{num16, tagAt, tagIn, tagCase}
+use Rattle.dataset.specs.declared.bytes.TagIn.{TagIn}
+use Rattle.dataset.specs.declared.bytes.TagIn.the-variants as tagEnum
 use Rattle.mac.proofs.OutputSteps.{drop-one}
 use Rattle.mac.specs.TagList.{barred, tagsIn, badSize, ascendingAnswer, unbarredAnswer, listAnswer}
 
@@ -41,9 +45,13 @@ none-in (a ∷ b ∷ c ∷ d ∷ l) h = absurd (omega arith)
 pub tags-none : (l : List ℕ) (index : ℕ) → length l / 4 ≤ index → tagsIn (drop (4 * index) l) ≡ []
 tags-none l index h = none-in (drop (4 * index) l) (simp length-drop (omega arith))
 
-pub tag-there : (l : List ℕ) (i tag : ℕ) → i + 4 ≤ length l → tag ≡ tagIn l i → tag ≡ tagAt l i
+pub tag-there : (l : List ℕ) (i tag : ℕ) (t : TagIn) → i + 4 ≤ length l → tagCase t ≡ tagIn l i → t ≡ tagEnum.Tag tag → tag ≡ tagAt l i
 unfolding tagIn if_then_else_
-tag-there l i tag h e = e ∙ rw (le-leb (i + 4) (length l) h)
+tag-there l i tag t h e q = let z : some tag ≡ some (tagAt l i) = sym (ap tagCase q) ∙ e ∙ rw (le-leb (i + 4) (length l) h) in cc
+
+pub tag-not-absent : (l : List ℕ) (i : ℕ) (t : TagIn) → i + 4 ≤ length l → tagCase t ≡ tagIn l i → (t ≡ tagEnum.Absent) → ⊥
+unfolding tagIn if_then_else_
+tag-not-absent l i t h e q = let z : Opt.none ≡ some (tagAt l i) = sym (ap tagCase q) ∙ e ∙ rw (le-leb (i + 4) (length l) h) in true≢false (cc)
 
 pub tag-inside : (l : List ℕ) (index count : ℕ) → count ≡ length l / 4 → index < count → 4 * index + 4 ≤ length l
 tag-inside l index count e h = omega arith

@@ -10,6 +10,7 @@ use lib.Dec.{eqb}
 use lib.ListN.{length, drop}
 use Rattle.answer.specs.If.{if_then_else_}
 use Rattle.answer.specs.declared.Answer.{Answer}
+use Rattle.dataset.specs.Bytes.{OfBytes}
 use Rattle.digest.specs.Message.{digestOf}
 use Rattle.digest.specs.Sha256.{sha256}
 use Rattle.mac.specs.Bytes.{sameBytes}
@@ -32,24 +33,43 @@ isAccepted c = eqb (c .answer .number) 0
 unfoldable pub outputAfter : Result → (out : List ℕ) → List ℕ
 outputAfter c out = if isAccepted c then c .stream ++ drop (length (c .stream)) out else out
 
--- of a check; a call for the stream says neither
-abbrev pub compared : Option (List ℕ) → (digest : List ℕ) → Verdict
-compared Opt.none digest = verdict.Neither
-compared (some e) digest = if sameBytes digest e then verdict.Same else verdict.Differs
+-- what a check says, as a number; a call for the stream says neither
+abbrev pub neither : ℕ
+neither = 0
+
+abbrev pub same : ℕ
+same = 1
+
+abbrev pub differs : ℕ
+differs = 2
+
+-- the cases of Verdict (src/verdict.rt), by their numbers (13.2)
+abbrev pub verdictCode : Verdict → ℕ
+verdictCode verdict.Neither = neither
+verdictCode verdict.Same = same
+verdictCode verdict.Differs = differs
+
+-- of a check, by its expected digest
+abbrev pub compared : Option (List ℕ) → (digest : List ℕ) → ℕ
+compared Opt.none digest = neither
+compared (some e) digest = if sameBytes digest e then same else differs
 
 -- "A check answers 0 with "same" or "differs" .. A refused check says neither."
-unfoldable pub verdictOf : Result → Verdict
-verdictOf c = if isAccepted c then compared (c .expected) (digestOf sha256 (c .stream)) else verdict.Neither
+unfoldable pub verdictOf : Result → ℕ
+verdictOf c = if isAccepted c then compared (c .expected) (digestOf sha256 (c .stream)) else neither
 
 -- ---- what the functions promise
 
--- what a call for the stream gives back, r, and leaves in the output
-pub record Streamed (c : Result) (out : List ℕ) (r : Answer) (after : List ℕ) : Type 0 where
+-- What a call for the stream on the data set `set` gives back, r, and leaves in the output. The data set is a slice of bytes: that makes it a
+-- list of bytes, on which demand 3 rests.
+pub record Streamed (c : Result) (set out : List ℕ) (r : Answer) (after : List ℕ) : Type 0 where
   pub answers : r ≡ c .answer
   pub output : after ≡ outputAfter c out
+  pub bytes : OfBytes set
 
 -- what a check gives back, r, and leaves in the work buffer
-pub record CheckedAs (c : Result) (work : List ℕ) (r : Checked) (after : List ℕ) : Type 0 where
+pub record CheckedAs (c : Result) (set work : List ℕ) (r : Checked) (after : List ℕ) : Type 0 where
   pub answers : r .answer ≡ c .answer
-  pub says : r .verdict ≡ verdictOf c
+  pub says : verdictCode (r .verdict) ≡ verdictOf c
   pub output : after ≡ outputAfter c work
+  pub bytes : OfBytes set

@@ -2,6 +2,7 @@
 use crate::tag_list;
 use dataset::header::ElementHeader;
 ghost use mathlib.Core.Path.{_≡_};
+ghost use Rattle.dataset.specs.Header.{elementCase};
 ghost use Rattle.mac.specs.Inner.Keep.{keeps, keepsHeader};
 
 // All that are not barred (in an item), those of one tag, or none.
@@ -24,7 +25,7 @@ fn is_kept(keep: Keep, tag: u32) -> bool
 
 // Whether the element with this header is kept.
 pub(crate) fn keeps_header(keep: Keep, h: ElementHeader) -> bool
-    ensures { λ r. ⌜ r ≡ keepsHeader keep h ⌝ }
+    ensures { λ r. ⌜ r ≡ keepsHeader keep (elementCase h) ⌝ }
 {
     match h {
         ElementHeader::Refused(_) => false,

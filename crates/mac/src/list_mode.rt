@@ -23,14 +23,14 @@ fn list_call(list: &[u8], d: &[u8], bad_digest_length: bool, out: &mut [u8]) -> 
 
 // The stream of a list in a data set, into the output.
 pub fn list_stream(list: &[u8], d: &[u8], out: &mut [u8]) -> Answer
-    ensures { λ r. ⌜ Streamed (result (streamCall (now (list .entry)) (now (d .entry)) (now (out .entry)))) (now (out .entry)) r (now (out .exit)) ⌝ }
+    ensures { λ r. ⌜ Streamed (result (streamCall (now (list .entry)) (now (d .entry)) (now (out .entry)))) (now (d .entry)) (now (out .entry)) r (now (out .exit)) ⌝ }
 {
     list_call(list, d, false, out)
 }
 
 // The check of the stream's digest: the stream is written into the work buffer.
 pub fn list_check(list: &[u8], d: &[u8], expected: &[u8], work: &mut [u8]) -> Checked
-    ensures { λ r. ⌜ CheckedAs (result (checkCall (now (list .entry)) (now (d .entry)) (now (expected .entry)) (now (work .entry)))) (now (work .entry)) r (now (work .exit)) ⌝ }
+    ensures { λ r. ⌜ CheckedAs (result (checkCall (now (list .entry)) (now (d .entry)) (now (expected .entry)) (now (work .entry)))) (now (d .entry)) (now (work .entry)) r (now (work .exit)) ⌝ }
 {
     let answer = list_call(list, d, verdict::bad_digest_length(expected), work);
     verdict::check_of(answer, expected, work)

@@ -6,6 +6,7 @@ use dataset::header::ElementHeader;
 use dataset::reading;
 use dataset::reading::OneOutcome;
 ghost use mathlib.Core.Path.{_≡_};
+ghost use Rattle.dataset.specs.Header.{elementCase};
 ghost use Rattle.mac.specs.Inner.Extent.{Lies, elementsIn};
 ghost use Rattle.mac.specs.Inner.Seek.{isThere, placeBy, placeOn, SoughtIn};
 
@@ -47,7 +48,7 @@ fn is_there(p: Place) -> bool
 
 // The element with this header, of a data set with `left` levels.
 fn place_by(left: u32, h: ElementHeader) -> Place
-    ensures { λ r. ⌜ r ≡ placeBy left h ⌝ }
+    ensures { λ r. ⌜ r ≡ placeBy left (elementCase h) ⌝ }
 {
     match h {
         ElementHeader::Refused(_) => Place::Absent,

@@ -7,6 +7,7 @@ use crate::seek::Sought;
 use answer::Answer;
 use dataset::header;
 use dataset::header::ItemHeader;
+use dataset::reading;
 use dataset::vr;
 ghost use mathlib.Core.Path.{_≡_};
 ghost use mathlib.Core.Bool.{_&&_};
@@ -116,7 +117,7 @@ fn find_item(d: &[u8], x: Extent, key: ItemKey) -> FoundItem
             } => {
                 let inside = Extent {
                     delimited,
-                    left: x.left - 1,
+                    left: reading::deeper(x.left),
                     stop: end,
                     from: start,
                 };

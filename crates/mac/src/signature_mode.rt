@@ -55,7 +55,7 @@ fn signature_call(
 
 // The stream of a signature in a data set, into the output: with the UID of the data set's transfer syntax.
 pub fn signature_stream(uid: &[u8], which: Signature, d: &[u8], out: &mut [u8]) -> Answer
-    ensures { λ r. ⌜ Streamed (result (streamCall (now (uid .entry)) which (now (d .entry)) (now (out .entry)))) (now (out .entry)) r (now (out .exit)) ⌝ }
+    ensures { λ r. ⌜ Streamed (result (streamCall (now (uid .entry)) which (now (d .entry)) (now (out .entry)))) (now (d .entry)) (now (out .entry)) r (now (out .exit)) ⌝ }
 {
     signature_call(uid, which, d, false, out)
 }
@@ -68,7 +68,7 @@ pub fn signature_check(
     expected: &[u8],
     work: &mut [u8],
 ) -> Checked
-    ensures { λ r. ⌜ CheckedAs (result (checkCall (now (uid .entry)) which (now (d .entry)) (now (expected .entry)) (now (work .entry)))) (now (work .entry)) r (now (work .exit)) ⌝ }
+    ensures { λ r. ⌜ CheckedAs (result (checkCall (now (uid .entry)) which (now (d .entry)) (now (expected .entry)) (now (work .entry)))) (now (d .entry)) (now (work .entry)) r (now (work .exit)) ⌝ }
 {
     let answer = signature_call(uid, which, d, verdict::bad_digest_length(expected), work);
     verdict::check_of(answer, expected, work)

@@ -1,18 +1,22 @@
 // The tag list: its size, its order, and the barred tags.
 use answer::Answer;
 use dataset::bytes;
+use dataset::bytes::TagIn;
 ghost use mathlib.Core.Path.{_≡_};
 ghost use Prim.Native.Nat.{_+_, _*_, _<_, _≤_};
 ghost use lib.ListN.{length};
 ghost use Rattle.dataset.specs.Bytes.{tagAt};
 ghost use Rattle.mac.specs.TagList.{barred, tagsIn, badSize, ascendingAnswer, unbarredAnswer, listAnswer};
 
-// The tag at an index of the list.
+// The tag at an index of the list. (Where no tag stood it would be 0; the index lies in the list.)
 pub(crate) fn tag_at(list: &[u8], index: usize) -> u32
     requires { ⌜ 4 * index + 4 ≤ length (now list) ⌝ }
     ensures { λ r. ⌜ r ≡ tagAt (now (list .entry)) (4 * index) ⌝ }
 {
-    bytes::tag_in(list, 4 * index)
+    let TagIn::Tag(tag) = bytes::tag_in(list, 4 * index) else {
+        return 0;
+    };
+    tag
 }
 
 // Whether a tag is barred.

@@ -7,7 +7,7 @@ ghost use mathlib.Core.Option.{some};
 ghost use Prim.Native.Nat.{_≤_};
 ghost use lib.ListN.{length};
 ghost use Rattle.mac.specs.Modes.{badDigestLength};
-ghost use Rattle.mac.specs.Result.{compared};
+ghost use Rattle.mac.specs.Result.{verdictCode, compared};
 ghost use Rattle.mac.specs.Inner.Verdict.{CheckOf};
 
 // Whether the digest of the stream is the expected one; a refused check says neither.
@@ -32,7 +32,7 @@ pub(crate) fn bad_digest_length(expected: &[u8]) -> bool
 
 // What a check says of the digest of its stream.
 fn verdict_of(digest: &[u8], expected: &[u8]) -> Verdict
-    ensures { λ r. ⌜ r ≡ compared (some (now (expected .entry))) (now (digest .entry)) ⌝ }
+    ensures { λ r. ⌜ verdictCode r ≡ compared (some (now (expected .entry))) (now (digest .entry)) ⌝ }
 {
     if bytes::same_bytes(digest, expected) {
         return Verdict::Same;

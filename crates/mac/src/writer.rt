@@ -7,6 +7,7 @@ use answer::Answer;
 use dataset::header;
 use dataset::header::ElementHeader;
 use dataset::header::ItemHeader;
+use dataset::reading;
 use dataset::vr;
 ghost use mathlib.Core.Path.{_≡_};
 ghost use mathlib.Core.Bool.{false};
@@ -16,6 +17,7 @@ ghost use lib.Dec.{eqb};
 ghost use lib.ListN.{length};
 ghost use lib.Seq.{sets};
 ghost use Rattle.dataset.specs.Bytes.{between};
+ghost use Rattle.dataset.specs.Header.{elementCase};
 ghost use Rattle.dataset.specs.Vr.{UN};
 ghost use Rattle.mac.specs.Stream.{itemTagBytes};
 ghost use Rattle.mac.specs.Inner.Writer.{nestedWritten, withOffset, HeaderAt, FragmentsWalk, ElementWalk, OneWalk, ElementsWalk, ItemsWalk};
@@ -126,7 +128,7 @@ fn write_fragments(
     let mut to = onto;
     loop {
         match header::item_header(d, false, true, stop, at) {
-            ItemHeader::Refused(number) => return Written::Refused(Answer::refused(number, at)),
+            ItemHeader::Refused(fault) => return Written::Refused(fault),
             ItemHeader::End(next) => {
                 output::put_sequence_delimiter(out, to);
                 return Written::Past {
@@ -158,11 +160,11 @@ fn write_element(
     out: &mut [u8],
     to: usize,
 ) -> OneWritten
-    requires { ⌜ HeaderAt (now d) left stop at h × (to ≤ at + length (now d)) × (at ≤ stop) × (stop ≤ length (now d)) ⌝ }
-    ensures { λ r. ⌜ ElementWalk (now (d .entry)) left stop at h to r (now (out .entry)) (now (out .exit)) ⌝ }
+    requires { ⌜ HeaderAt (now d) left stop at (elementCase h) × (to ≤ at + length (now d)) × (at ≤ stop) × (stop ≤ length (now d)) ⌝ }
+    ensures { λ r. ⌜ ElementWalk (now (d .entry)) left stop at (elementCase h) to r (now (out .entry)) (now (out .exit)) ⌝ }
 {
     match h {
-        ElementHeader::Refused(number) => OneWritten::Refused(Answer::refused(number, at)),
+        ElementHeader::Refused(fault) => OneWritten::Refused(fault),
         ElementHeader::End(next) => OneWritten::End(next),
         ElementHeader::Value {
             tag,
@@ -284,7 +286,7 @@ fn write_items(
     let mut to = onto;
     loop {
         match header::item_header(d, true, delimited, stop, at) {
-            ItemHeader::Refused(number) => return Written::Refused(Answer::refused(number, at)),
+            ItemHeader::Refused(fault) => return Written::Refused(fault),
             ItemHeader::End(next) => {
                 output::put_sequence_delimiter(out, to);
                 return Written::Past {
@@ -299,7 +301,7 @@ fn write_items(
                 delimited: inner,
             } => {
                 output::put_item_tag(out, to);
-                match write_elements(d, inner, left - 1, end, start, out, to + 4) {
+                match write_elements(d, inner, reading::deeper(left), end, start, out, to + 4) {
                     Written::Refused(fault) => return Written::Refused(fault),
                     Written::Past {
                         holds_un,

@@ -15,7 +15,7 @@ use Rattle.digest.specs.Message.{limit}
 use Rattle.mac.specs.TagList.{tagsIn, listAnswer}
 use Rattle.mac.specs.Stream.{listedStream}
 use Rattle.mac.specs.Modes.{tagsAnswer, badDigestLength, answerFrom13}
-use Rattle.mac.specs.Result.{Result, Streamed}
+use Rattle.mac.specs.Result.{Result, outputAfter}
 use Rattle.mac.specs.ListMode as listMode
 use Rattle.mac.specs.SignatureMode as signatureMode
 use Rattle.mac.specs.Inner.Extent.{Lies, elementsIn}
@@ -63,11 +63,16 @@ pub record StreamWalk (list d : List ℕ) (x : Extent) (item : SignatureItem) (r
 
 -- ---- the end of the order
 
+-- what a call answers, r, and leaves in the output
+pub record Left (c : Result) (out : List ℕ) (r : Answer) (after : List ℕ) : Type 0 where
+  pub answers : r ≡ c .answer
+  pub output : after ≡ outputAfter c out
+
 -- what is answered and left where the data set is read
 abbrev pub ReadFrom13 : (list d : List ℕ) → Elements → SignatureItem → (bad : Bool) (out : List ℕ) (r : Answer) (after : List ℕ) → Type 0
 ReadFrom13 list d es item bad out r after =
     (expected : Option (List ℕ)) → badDigestLength expected ≡ bad
-    → Streamed
+    → Left
     (record {
       answer = answerFrom13 (tagsIn list) es (wholeStream (tagsIn list) es d item) (length out) expected;
       stream = wholeStream (tagsIn list) es d item;
@@ -97,7 +102,7 @@ signatureCall uid which d out expected = signatureMode.result (record { uid = ui
 
 -- what is answered and left for each expected digest that is not 32 bytes (`bad`), or is
 pub record CallAnswered (call : Option (List ℕ) → Result) (bad : Bool) (out : List ℕ) (r : Answer) (after : List ℕ) : Type 0 where
-  pub streamed : (expected : Option (List ℕ)) → badDigestLength expected ≡ bad → Streamed (call expected) out r after
+  pub streamed : (expected : Option (List ℕ)) → badDigestLength expected ≡ bad → Left (call expected) out r after
   pub long : (expected : Option (List ℕ)) → r .number ≡ 0 → r .length ≡ length (call expected .stream)
   pub room : r .number ≡ 0 → r .length ≤ length out
   pub short : r .number ≡ 0 → r .length ≤ limit

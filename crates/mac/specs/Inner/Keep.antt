@@ -3,8 +3,7 @@
 use Prim.Native.Nat.{ℕ}
 use mathlib.Core.Bool.{Bool, true, false, not}
 use lib.Dec.{eqb}
-use Rattle.dataset.specs.declared.header.ElementHeader.{ElementHeader}
-use Rattle.dataset.specs.declared.header.ElementHeader.the-variants as header
+use Rattle.dataset.specs.Header.{ElementHeader}
 use Rattle.mac.specs.TagList.{barred}
 use Rattle.mac.specs.declared.keep.Keep.{Keep}
 use Rattle.mac.specs.declared.keep.Keep.the-variants as keep
@@ -16,11 +15,11 @@ keeps keep.Nothing tag = false
 
 -- by the header of an element; where there is no element nothing is kept
 abbrev pub keepsHeader : Keep → ElementHeader → Bool
-keepsHeader k (header.Refused number) = false
-keepsHeader k (header.End next) = false
-keepsHeader k (header.Value tag vr start end) = keeps k tag
-keepsHeader k (header.Sequence tag start end delimited) = keeps k tag
-keepsHeader k (header.Fragments tag start) = keeps k tag
+keepsHeader k (ElementHeader.refused f) = false
+keepsHeader k (ElementHeader.ends next) = false
+keepsHeader k (ElementHeader.value tag vr start end) = keeps k tag
+keepsHeader k (ElementHeader.sequence tag start end delimited) = keeps k tag
+keepsHeader k (ElementHeader.fragments tag start) = keeps k tag
 
 -- each element
 unfoldable pub every : (tag : ℕ) → Bool

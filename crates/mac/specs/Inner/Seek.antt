@@ -9,12 +9,10 @@ use mathlib.Core.Option as Opt
 use lib.Dec.{eqb}
 use lib.ListN.{length}
 use Rattle.answer.specs.If.{if_then_else_}
-use Rattle.dataset.specs.Header.{elementAt}
+use Rattle.dataset.specs.Header.{ElementHeader, elementAt}
 use Rattle.dataset.specs.Tree.{Element, Elements, Items}
 use Rattle.dataset.specs.Reading.{Reading, fault, read}
 use Rattle.dataset.specs.Lookup.{elementOf}
-use Rattle.dataset.specs.declared.header.ElementHeader.{ElementHeader}
-use Rattle.dataset.specs.declared.header.ElementHeader.the-variants as header
 use Rattle.mac.specs.Inner.Extent.{Lies, itemsIn}
 use Rattle.mac.specs.declared.extent.Extent.{Extent}
 use Rattle.mac.specs.declared.seek.Place.{Place}
@@ -30,11 +28,11 @@ isThere place.Fragments = true
 
 -- the element with this header, of a data set with `left` levels
 abbrev pub placeBy : (left : ℕ) → ElementHeader → Place
-placeBy left (header.Refused number) = place.Absent
-placeBy left (header.End next) = place.Absent
-placeBy left (header.Value tag vr start end) = place.Value vr start end
-placeBy left (header.Sequence tag start end delimited) = place.Items (record { delimited = delimited; left = left; stop = end; from = start })
-placeBy left (header.Fragments tag start) = place.Fragments
+placeBy left (ElementHeader.refused f) = place.Absent
+placeBy left (ElementHeader.ends next) = place.Absent
+placeBy left (ElementHeader.value tag vr start end) = place.Value vr start end
+placeBy left (ElementHeader.sequence tag start end delimited) = place.Items (record { delimited = delimited; left = left; stop = end; from = start })
+placeBy left (ElementHeader.fragments tag start) = place.Fragments
 
 -- after one element more, of the tag `here` at `at`
 unfoldable pub placeOn : List ℕ → Extent → (at least : ℕ) → Place → (tag here : ℕ) → Place

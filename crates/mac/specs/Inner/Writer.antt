@@ -9,10 +9,9 @@ use mathlib.Core.List.{List, []}
 use lib.ListN.{length}
 use lib.Seq.{sets}
 use Rattle.answer.specs.If.{if_then_else_}
-use Rattle.dataset.specs.Header.{elementAt}
+use Rattle.dataset.specs.Header.{ElementHeader, elementAt}
 use Rattle.dataset.specs.Tree.{Element, tagOf}
-use Rattle.dataset.specs.Reading.{Reading, fault, read, One, ended, element, explicit, refusal, byHeader, elementsAt, itemsAt, fragmentsAt, oneAt}
-use Rattle.dataset.specs.declared.header.ElementHeader.{ElementHeader}
+use Rattle.dataset.specs.Reading.{Reading, fault, read, One, ended, element, explicit, byHeader, elementsAt, itemsAt, fragmentsAt, oneAt}
 use Rattle.mac.specs.Stream.{streamOf, elementsStream, itemsStream, fragmentsStream}
 use Rattle.mac.specs.UN.{isUN, holdsUN, elementsHoldUN, itemsHoldUN}
 use Rattle.mac.specs.Inner.Keep.{keeps, every}
@@ -60,7 +59,7 @@ pub record Walk {A R : Type 0} (answer : Reading A → List ℕ → ℕ → R) (
 
 -- what is read at `at` by the header that stands there
 unfoldable pub byHeaderAt : List ℕ → (left stop at : ℕ) → ElementHeader → Reading One
-byHeaderAt d left stop at h = byHeader (refusal at) (λ inner. itemsAt explicit d inner left) (fragmentsAt explicit d left stop) at h
+byHeaderAt d left stop at h = byHeader (λ inner. itemsAt explicit d inner left) (fragmentsAt explicit d left stop) at h
 
 -- h stands at `at` in an element's place
 pub record HeaderAt (d : List ℕ) (left stop at : ℕ) (h : ElementHeader) : Type 0 where

@@ -17,7 +17,7 @@ same-length : tie.Need-same-length
 same-length c = search needs
 
 returns : tie.Need-returns
-returns c = search steps.list-checked
+returns c = search (steps.list-checked, c .before .before .before .before .before .before .before .before .before .shared-slice-known2 .given)
 
 pub list-check-spec : {M : Type 1} → statement M
 list-check-spec = tie.close (tie.spec bad-digest-length-requires list-call-requires check-of-requires same-length returns)

@@ -11,7 +11,7 @@ same-length : tie.Need-same-length
 same-length c = search needs
 
 returns : tie.Need-returns
-returns c = search steps.list-streamed
+returns c = search (steps.list-streamed, c .before .before .before .before .before .shared-slice-known2 .given)
 
 pub list-stream-spec : {M : Type 1} → statement M
 list-stream-spec = tie.close (tie.spec list-call-requires same-length returns)

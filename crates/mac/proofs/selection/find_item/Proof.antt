@@ -32,8 +32,8 @@ returns-2 c = search steps.find-item-end
 enum-known-start : tie.Need-enum-known-start Inv-loop μ-loop
 enum-known-start c = search needs
 
-sub-t14 : tie.Need-sub-t14 Inv-loop μ-loop
-sub-t14 c = search needs
+deeper-requires : tie.Need-deeper-requires Inv-loop μ-loop
+deeper-requires c κs = search needs
 
 seek-requires : tie.Need-seek-requires Inv-loop μ-loop
 seek-requires c κs = search steps.item-lies
@@ -75,7 +75,7 @@ find-item-spec =
     enum-told-2
     returns-2
     enum-known-start
-    sub-t14
+    deeper-requires
     seek-requires
     enum-told-3
     returns-3

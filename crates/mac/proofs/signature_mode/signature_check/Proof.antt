@@ -17,7 +17,7 @@ same-length : tie.Need-same-length
 same-length c = search needs
 
 returns : tie.Need-returns
-returns c = search steps.signature-checked
+returns c = search (steps.signature-checked, c .before .before .before .before .before .before .before .before .before .shared-slice-known2 .given)
 
 pub signature-check-spec : {M : Type 1} → statement M
 signature-check-spec =

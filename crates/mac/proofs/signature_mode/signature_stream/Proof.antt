@@ -11,7 +11,7 @@ same-length : tie.Need-same-length
 same-length c = search needs
 
 returns : tie.Need-returns
-returns c = search steps.signature-streamed
+returns c = search (steps.signature-streamed, c .before .before .before .before .before .shared-slice-known2 .given)
 
 pub signature-stream-spec : {M : Type 1} → statement M
 signature-stream-spec = tie.close (tie.spec signature-call-requires same-length returns)

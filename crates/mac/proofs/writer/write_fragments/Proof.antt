@@ -17,11 +17,8 @@ loop-holds c = search steps.fragments-start
 item-header-requires : tie.Need-item-header-requires Inv-loop μ-loop
 item-header-requires c κs = search needs
 
-enum-known-number : tie.Need-enum-known-number Inv-loop μ-loop
-enum-known-number c = search needs
-
-refused-requires : tie.Need-refused-requires Inv-loop μ-loop
-refused-requires c κs = search needs
+enum-known-fault : tie.Need-enum-known-fault Inv-loop μ-loop
+enum-known-fault c = search needs
 
 same-length : tie.Need-same-length Inv-loop μ-loop
 same-length c = search needs
@@ -35,8 +32,8 @@ enum-known-next c = search needs
 put-sequence-delimiter-requires : tie.Need-put-sequence-delimiter-requires Inv-loop μ-loop
 put-sequence-delimiter-requires c κs = search needs
 
-add-t18 : tie.Need-add-t18 Inv-loop μ-loop
-add-t18 c = search needs
+add-t17 : tie.Need-add-t17 Inv-loop μ-loop
+add-t17 c = search needs
 
 same-length-2 : tie.Need-same-length-2 Inv-loop μ-loop
 same-length-2 c = search needs
@@ -73,13 +70,12 @@ write-fragments-spec =
     μ-loop
     loop-holds
     item-header-requires
-    enum-known-number
-    refused-requires
+    enum-known-fault
     same-length
     returns
     enum-known-next
     put-sequence-delimiter-requires
-    add-t18
+    add-t17
     same-length-2
     returns-2
     enum-known-start
