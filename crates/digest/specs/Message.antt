@@ -40,7 +40,7 @@ rest m = drop (64 * (length m / 64)) m
 unfoldable pub digestOf : Algorithm → List ℕ → List ℕ
 digestOf a m = wordBytes (a .order) (a .size) (afterBlocks (a .block) (a .start) (m ++ padding (a .order) (length m)))
 
--- 25: "total past 2^61 - 1 bytes"
+-- 25: "its total is past 2^61 - 1 bytes" (RULES, 9.3)
 abbrev pub limit : ℕ
 limit = 2 ^ 61 - 1
 

@@ -1,6 +1,6 @@
--- The running digest, over any algorithm: 01, "The digest", and number 25. Running digest, waiting and possible are terms of 01.
--- `Running`, `Fed` and `Finished` are the structs of src/running.rt: "eight words, at most 63 waiting bytes and a total", the waiting bytes
--- in an array of 64 with their count.
+-- The running digest, over any algorithm: docs/RULES.md, 10.2 to 10.5, and 25. Running digest (10.2) and possible (10.3) are its terms.
+-- `Running`, `Fed` and `Finished` are the structs of src/running.rt. 10.2: "A running digest is eight words, at most 63 bytes that wait,
+-- and the total of the bytes fed." The waiting bytes stand in an array of 64, with their count.
 -- An array of the code is the list of its numbers; the definitions hold for lists of any length.
 -- Assumes nothing.
 use Prim.Native.Nat.{ℕ, _+_, _-_, _%_}
@@ -25,7 +25,7 @@ unfoldable pub allZero : List ℕ → Bool
 allZero [] = true
 allZero (x ∷ xs) = eqb x 0 && allZero xs
 
--- "It is possible when the waiting count equals the total modulo 64 and the room past the waiting bytes is zero"
+-- 10.3: "It is possible when the count of waiting bytes is what the total leaves modulo 64, and the rest of the room for them is zero."
 unfoldable pub possible : Running → Bool
 possible s = eqb (s .count) (s .total % 64) && allZero (drop (s .count) (s .waiting))
 
@@ -56,15 +56,15 @@ fed a s m =
 unfoldable pub finished : Algorithm → Running → List ℕ
 finished a s = wordBytes (a .order) (a .size) (afterBlocks (a .block) (s .words) (waitingBytes s ++ padding (a .order) (s .total)))
 
--- "each feeding takes a running digest and gives back the next; a refused one gives back what it got". The answer's length is 0
+-- 10.4: "from a running digest it makes the next and returns it. Refused, it returns the old one unchanged." The answer's length is 0
 -- (docs/DECISIONS.md, A3).
 unfoldable pub feeding : Algorithm → Running → List ℕ → Fed
 feeding a s m =
     if accepts s (length m) then record { answer = accepted 0; running = fed a s m } else
     record { answer = refused 25 0; running = s }
 
--- "Finishing an impossible one answers 25 with 32 zero bytes", as many as the digest has, and so does finishing one whose total is past the
--- limit (docs/DECISIONS.md, D2). The answer's length is 0 (A3). The running digest comes back as it was (D4).
+-- 10.5: "Finishing one that is not possible gives 25 and, for a digest, 32 bytes of zero", as many as the digest has, and so does finishing
+-- one whose total is past the limit (docs/DECISIONS.md, D2). The answer's length is 0 (A3). The running digest comes back as it was (D4).
 unfoldable pub finishing : Algorithm → Running → Finished
 finishing a s =
     if accepts s 0 then record { answer = accepted 0; digest = finished a s; running = s } else

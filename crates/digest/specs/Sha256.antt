@@ -1,5 +1,5 @@
--- SHA-256: FIPS 180-4, 4.2.2, 5.3.3 and 6.2. A block is 64 bytes, a hash value eight words. 01: "sums are taken modulo two to the 32"
--- (FIPS 180-4, 2.2.2); each sum here is one of numbers, and then its remainder.
+-- SHA-256: FIPS 180-4, 4.2.2, 5.3.3 and 6.2. A block is 64 bytes, a hash value eight words. "Additions are modulo 2^32." (docs/RULES.md,
+-- 10.1; FIPS 180-4, 2.2.2) Each sum here is one of numbers, and then its remainder.
 -- `Working` is the struct of src/sha256.rt: the working variables a to h.
 -- Assumes nothing.
 use Prim.Native.Nat.{ℕ, zero, suc, _+_, _-_, _*_, _%_, _^_}

@@ -1,5 +1,5 @@
--- What holds of the definitions, stated here and proved in proofs/Theorems. 01, "How much the promises say": "the digest after each feeding
--- equals FIPS 180-4 over all bytes so far".
+-- What holds of the definitions, stated here and proved in proofs/Theorems. docs/RULES.md, 13.3, of a digest: "after every feeding it is
+-- FIPS 180-4's of all bytes fed".
 -- Assumes nothing.
 use Prim.Native.Nat.{ℕ, _+_, _*_, _%_, _<_, _≤_}
 use mathlib.Core.Path.{_≡_}
@@ -49,8 +49,9 @@ unfoldable pub afterCalls : Algorithm → Running → List (List ℕ) → Runnin
 afterCalls a s [] = s
 afterCalls a s (m ∷ parts) = afterCalls a (feeding a s m .running) parts
 
--- After calls of feed from any running digest that takes all their bytes, whatever its words are ("any eight words will do"): one more call
--- of feed is accepted where s accepts its bytes too, and a call of finish is accepted and gives the digest after feeding all bytes at once.
+-- After calls of feed from any running digest that takes all their bytes, whatever its words are ("The words may be any eight", RULES
+-- 10.3): one more call of feed is accepted where s accepts its bytes too, and a call of finish is accepted and gives the digest after
+-- feeding all bytes at once.
 pub record CallsFrom (a : Algorithm) (s : Running) (parts : List (List ℕ)) : Type 0 where
   pub state : afterCalls a s parts ≡ fed a s (flatten parts)
   pub feed-answer : (m : List ℕ) → accepts s (length (flatten parts ++ m)) ≡ true → feeding a (afterCalls a s parts) m .answer ≡ accepted 0

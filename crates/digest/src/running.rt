@@ -82,7 +82,7 @@ impl Running {
         }
     }
 
-    // Whether the waiting count and the room past the waiting bytes are right.
+    // Whether the count of waiting bytes is right, and the rest of the room for them is zero.
     fn possible(self) -> bool
         ensures { λ r. ⌜ r ≡ Spec.possible self ⌝ }
     {
@@ -143,7 +143,7 @@ impl Running {
         }
     }
 
-    // Feeds `bytes`. A refusal, 25, hands back what it got.
+    // Feeds `bytes`. Refused, with 25, it returns the running digest as received.
     pub fn feed(self, bytes: &[u8]) -> Fed
         ensures { λ r. ⌜ r ≡ Spec.feeding Sha256.sha256 self (now (bytes .entry)) ⌝ }
     {

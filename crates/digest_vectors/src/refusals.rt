@@ -93,7 +93,7 @@ fn run_one(name: &[u8], s: Running, bytes: &[u8]) {
     run_feed(name, s, bytes);
 }
 
-// 25: "running digest not a possible one", with possible neighbours.
+// 25: "a running digest is not possible" (RULES, 9.3), with possible neighbours.
 fn run_possible() {
     run_one(b"possible", state(3, 0, 3), b"bbbbb");
     run_one(b"possible-after-blocks", state(63, 0, 191), &[0x62u8; 200]);
@@ -103,7 +103,7 @@ fn run_possible() {
     run_one(b"byte-past-the-waiting", state(3, 1, 3), b"b");
 }
 
-// 25: "total past 2^61 - 1 bytes (also after the feeding asked for)", with neighbours within the limit.
+// 25: "its total is past 2^61 - 1 bytes, or would be after the feeding that is asked for" (RULES, 9.3), with neighbours within the limit.
 fn run_totals() {
     run_one(b"total-at-the-limit", state(63, 0, LIMIT), b"");
     run_one(

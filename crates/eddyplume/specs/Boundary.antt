@@ -1,4 +1,4 @@
--- What the exported functions write, in C's values (include/eddyplume.h); 01 is silent on C. An array of the code is the list of its
+-- What the exported functions write, in C's values (include/eddyplume.h): docs/RULES.md, 12. An array of the code is the list of its
 -- numbers. `StreamedTo` and `CheckedTo` are `Streamed` and `CheckedAs` of mac with the answer as three numbers, so that what is proved of
 -- those calls is said of these too.
 -- Assumes nothing.
@@ -80,7 +80,7 @@ pub record LookedUp (f : Found) (answer part : List ℕ) : Type 0 where
   pub answers : answer ≡ answerWords (f .answer)
   pub parts : part ≡ flag (f .present) ∷ f .start ∷ f .length ∷ []
 
--- "A refusal .. touches no output byte." (docs/DECISIONS.md, B1)
+-- 12.2: "7.3 holds for every output in C, also for a digest. Where 25 is answered no byte of `digest` is written" (docs/DECISIONS.md, B1)
 abbrev pub digestAfter : Answer → (digest before : List ℕ) → List ℕ
 digestAfter a digest before = if eqb (a .number) 0 then digest else before
 

@@ -1,5 +1,5 @@
--- Signed content (a term of 01): "each listed element's tag and VR with its value", with no offsets and no lengths. "It is defined
--- without the stream."
+-- Signed content, a term of docs/RULES.md, 6.1: "tag, VR and value of each listed element", with no offsets and no lengths. 6.4: "Nothing
+-- in this definition uses the stream."
 -- Assumes nothing.
 use Prim.Native.Nat.{ℕ}
 use mathlib.Core.Bool.{Bool, true, false, _||_}
@@ -12,8 +12,8 @@ use Rattle.dataset.specs.Lookup.{elementOf}
 use Rattle.mac.specs.TagList.{barred, unlessBarred}
 
 mutual
-  -- an element's tag and VR with its value; a sequence's VR is SQ, that of fragments OB. "A row of fragments and a value of bytes are
-  -- never the same value, even when both are empty."
+  -- an element's tag, VR and value; a sequence's VR is SQ, that of fragments OB. 6.3: "A row of fragments never equals a value of bytes,
+  -- not even where both are empty."
   pub data SignedElement : Type 0 where
     value : (tag vr : ℕ) (bytes : List ℕ) → SignedElement
     sequence : (tag : ℕ) (items : SignedItems) → SignedElement
@@ -24,18 +24,19 @@ mutual
     none : SignedElements
     and : (first : SignedElement) (rest : SignedElements) → SignedElements
 
-  -- "the row of items, each the row of its elements"; `last`: no item more
+  -- 6.2: "the row of its items, an item being the row of tag, VR and value of each of its elements"; `last`: no item more
   pub data SignedItems : Type 0 where
     last : SignedItems
     item : (elements : SignedElements) (rest : SignedItems) → SignedItems
 
--- "the row of fragments"
+-- 6.2: "the row of its fragments"
 unfoldable pub fragmentBytes : List Span → List ℕ → List (List ℕ)
 fragmentBytes [] d = []
 fragmentBytes (s ∷ rest) d = between d (s .start) (s .end) ∷ fragmentBytes rest d
 
--- The content of an element of the data set d: "for SQ the value is the row of items, each the row of its elements that aren't barred, by
--- the same rule; for undefined OB it is the row of fragments; otherwise it is the value's bytes".
+-- The content of an element of the data set d. 6.2, its value: "of an SQ, the row of its items, an item being the row of tag, VR and value
+-- of each of its elements that is not barred; of an OB of undefined length, the row of its fragments; of any other element, the bytes of
+-- its value."
 unfoldable mutual
   pub signed : Element → List ℕ → SignedElement
   signed (Element.value at tag vr span) d = SignedElement.value tag vr (between d (span .start) (span .end))
@@ -56,14 +57,14 @@ joined Opt.none rest d = Opt.none
 joined (some e) Opt.none d = Opt.none
 joined (some e) (some rest) d = some (SignedElements.and (signed e d) rest)
 
--- "The signed content of a list in a well-formed data set that holds every listed tag is, in list order, each listed element's tag and VR
--- with its value"; none where a tag is absent
+-- 6.1: "Where a data set is well-formed and has all tags of a list, the list has a signed content in it: tag, VR and value of each listed
+-- element, in the list's order."; none where a tag is absent
 unfoldable pub content : (tags : List ℕ) → Elements → List ℕ → Option SignedElements
 content [] es d = some SignedElements.none
 content (tag ∷ tags) es d = joined (elementOf tag es) (content tags es d) d
 
--- In fragments, a term of 01: "Something signed is in fragments when an undefined OB stands in the signed content, even one with no
--- fragment."
+-- In fragments, a term of RULES 6.5: "A signed content with an OB of undefined length anywhere in it, if only one with no fragments, has
+-- something signed in fragments."
 unfoldable mutual
   pub inFragments : SignedElement → Bool
   inFragments (SignedElement.value tag vr bytes) = false

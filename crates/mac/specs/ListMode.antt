@@ -1,5 +1,5 @@
--- List mode (a term of 01): "the MAC stream for a bare tag list"; "List mode has no signature fields." One definition of the answer, for
--- the stream and for the check.
+-- List mode, a term of docs/RULES.md, 1.1: "the MAC stream, for no more than a list of tags". 1.5: "List mode takes in no field of a
+-- signature." One definition of the answer, for the stream and for the check.
 -- Assumes nothing.
 use Prim.Native.Nat.{ℕ}
 use mathlib.Core.List.{List}
@@ -17,16 +17,16 @@ use Rattle.mac.specs.Stream.{listedStream}
 use Rattle.mac.specs.Modes.{answerFrom13}
 use Rattle.mac.specs.Result.{Result}
 
--- A call in list mode, for the stream or for the check: the list, the data set, the output room (a term of 01: "the length of the output
--- or, in a check, of the work buffer"), and the expected digest, which a call for the stream has not.
+-- A call in list mode, for the stream or for the check: the list, the data set, the output room (a term of RULES 7.2: "how many bytes the
+-- output has, or in a check the work buffer"), and the expected digest, which a call for the stream has not.
 pub record Call : Type 0 where
   pub list : List ℕ
   pub set : List ℕ
   pub room : ℕ
   pub expected : Option (List ℕ)
 
--- "A call's signed content is that of its list in its data set." It means something only where the data set is well-formed and holds every
--- listed tag; elsewhere the call is refused.
+-- 7.5: "By the signed content of a call the one is meant that its list has in its data set." It means something only where the data set is
+-- well-formed and holds every listed tag; elsewhere the call is refused.
 unfoldable pub contentOf : Call → Option SignedElements
 contentOf c = content (tagsIn (c .list)) (tree (c .set)) (c .set)
 
@@ -34,7 +34,7 @@ contentOf c = content (tagsIn (c .list)) (tree (c .set)) (c .set)
 unfoldable pub stream : Call → List ℕ
 stream c = listedStream (tagsIn (c .list)) (tree (c .set)) (c .set)
 
--- "List mode: 1, 10, 11 over the whole list, 12 over the whole list, 2 to 8, then tag by tag 13, 14, 15; then 9, 16".
+-- 9.4: "1; 10; 11 over the whole list; 12 over the whole list; 2 to 8; then for each tag in turn 13, 14, 15; then 9, 16".
 -- 1 stands in `dataSet` too; here it comes before the list.
 unfoldable pub answer : Call → Answer
 answer c =

@@ -1,4 +1,4 @@
--- What list mode and signature mode share: the end of the order, "then tag by tag 13, 14, 15; then 9, 16".
+-- What list mode and signature mode share: the end of the order, "then for each tag in turn 13, 14, 15; then 9, 16" (RULES, 9.4, 9.5).
 -- Assumes nothing.
 use Prim.Native.Nat.{ℕ, _+_}
 use mathlib.Core.Bool.{Bool, false, not}
@@ -14,23 +14,23 @@ use Rattle.dataset.specs.Tree.{Element, Elements}
 use Rattle.dataset.specs.Lookup.{elementOf}
 use Rattle.mac.specs.UN.{isUN, holdsUN}
 
--- of one listed tag. 13: "listed tag absent at the top level"; 14: "listed element is UN"; 15: "listed sequence holds UN"
+-- 13: "a listed tag does not stand at the top level"; 14: "a listed element is a UN"; 15: "a listed sequence has a UN in it" (9.3)
 unfoldable pub elementAnswer : (index : ℕ) → Option Element → Answer
 elementAnswer index Opt.none = refused 13 index
 elementAnswer index (some e) = if isUN e then refused 14 index else if holdsUN e then refused 15 index else accepted 0
 
--- "then tag by tag 13, 14, 15"
+-- "then for each tag in turn 13, 14, 15" (9.4, 9.5)
 unfoldable pub tagsAnswer : (index : ℕ) (tags : List ℕ) → Elements → Answer
 tagsAnswer index [] es = accepted 0
 tagsAnswer index (tag ∷ tags) es = elementAnswer index (elementOf tag es) orElse tagsAnswer (index + 1) tags es
 
--- 9: "expected digest not 32 bytes (check only)"; a call for the stream has none
+-- 9: "in a check only: the expected digest is not 32 bytes long" (9.3); a call for the stream has none
 abbrev pub badDigestLength : Option (List ℕ) → Bool
 badDigestLength Opt.none = false
 badDigestLength (some e) = not (eqb (length e) 32)
 
--- "then tag by tag 13, 14, 15; then 9, 16", alike in both modes: the tags of the list, in a data set whose elements are es; the stream; the
--- output room; the expected digest. 16: "output shorter than the stream".
+-- "then for each tag in turn 13, 14, 15; then 9, 16", alike in both modes (9.4, 9.5): the tags of the list, in a data set whose elements
+-- are es; the stream; the output room; the expected digest. 16: "the output room is less than the stream's length" (9.3)
 unfoldable pub answerFrom13 : (tags : List ℕ) → Elements → (stream : List ℕ) (room : ℕ) (expected : Option (List ℕ)) → Answer
 answerFrom13 tags es stream room expected =
     tagsAnswer 0 tags es

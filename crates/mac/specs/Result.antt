@@ -24,12 +24,12 @@ pub record Result : Type 0 where
   pub stream : List ℕ
   pub expected : Option (List ℕ)
 
--- accepted, a term of 01: "A call in either mode is accepted when its number is 0."
+-- accepted, a term of RULES 7.1: "A call with number 0 is accepted."
 abbrev pub isAccepted : Result → Bool
 isAccepted c = eqb (c .answer .number) 0
 
--- what is left in the output or work buffer `out`: "the first length bytes of the output are the stream; later bytes are untouched. A
--- refusal .. touches no output byte." Of a check: "its work buffer then holds the stream as an output does".
+-- what is left in the output or work buffer `out`. 7.3: "An accepted call puts the stream at the start of the output and changes no later
+-- byte; .. A refused call changes no byte of the output". 7.4, of a check: "7.3 holds of its work buffer in place of an output."
 unfoldable pub outputAfter : Result → (out : List ℕ) → List ℕ
 outputAfter c out = if isAccepted c then c .stream ++ drop (length (c .stream)) out else out
 
@@ -54,7 +54,7 @@ abbrev pub compared : Option (List ℕ) → (digest : List ℕ) → ℕ
 compared Opt.none digest = neither
 compared (some e) digest = if sameBytes digest e then same else differs
 
--- "A check answers 0 with "same" or "differs" .. A refused check says neither."
+-- 7.4: an accepted check says "same" or "differs". "A check that is refused says neither of the two."
 unfoldable pub verdictOf : Result → ℕ
 verdictOf c = if isAccepted c then compared (c .expected) (digestOf sha256 (c .stream)) else neither
 

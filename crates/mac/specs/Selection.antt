@@ -1,5 +1,5 @@
--- Which signature item, parameters item and list signature mode takes: 01, "The stream", its last paragraph; 18 to 23. The definitions are
--- over the elements of a data set: those of the whole, or of an item, which "is a data set" too.
+-- Which signature item, parameters item and list signature mode takes: docs/RULES.md, 8.1 to 8.3; 18 to 23 (9.3). The definitions are over
+-- the elements of a data set: those of the whole, or of an item, which "is again a data set" (2.2).
 -- Assumes nothing.
 use Prim.Native.Nat.{ℕ, _+_, _-_}
 use mathlib.Core.Bool.{Bool, true, false, not, _&&_, _||_}
@@ -39,7 +39,7 @@ digitalSignaturesSequence = 0xFFFAFFFA
 
 -- ---- items and values
 
--- the items of an element "of VR SQ"
+-- the items of an element "with VR SQ" (18, 20)
 abbrev pub itemsOf : Option Element → Option Items
 itemsOf Opt.none = Opt.none
 itemsOf (some (Element.value at tag vr span)) = Opt.none
@@ -63,26 +63,27 @@ abbrev pub itemWhere : (test : ℕ → Elements → Bool) → Option Items → O
 itemWhere test Opt.none = Opt.none
 itemWhere test (some items) = firstItem test 0 items
 
--- ---- the signature item (a term of 01: an item of the Digital Signatures Sequence)
+-- ---- the signature item (a term of RULES 8.2: an item of the Digital Signatures Sequence)
 
--- "a signature number, counted from 0, or none; none means 0" (signature number is a term of 01)
+-- 8.1: "signatures are counted from 0. Where no number is given, 0 is taken."
 abbrev pub numberOf : Signature → ℕ
 numberOf signature.Unnamed = 0
 numberOf (signature.Number n) = n
 
--- "It takes that item of the top level (FFFA,FFFA)". 18: "no (FFFA,FFFA) of VR SQ, or no such item"
+-- 8.2: "the item with the signature's number in the top level's (FFFA,FFFA)". 18: "there is no (FFFA,FFFA) with VR SQ, or it has no item
+-- with the signature's number" (9.3)
 unfoldable pub signatureItem : (number : ℕ) → Elements → Option Elements
 signatureItem number es = itemWhere (λ index item. eqb index number) (itemsOf (elementOf digitalSignaturesSequence es))
 
--- ---- the parameters item (a term of 01: an item of the MAC Parameters Sequence)
+-- ---- the parameters item (a term of RULES 8.2: an item of the MAC Parameters Sequence)
 
--- "of length 2"
+-- "length 2" (19, 20)
 abbrev pub twoBytes : Option (List ℕ) → Option (List ℕ)
 twoBytes Opt.none = Opt.none
 twoBytes (some value) = if eqb (length value) 2 then some value else Opt.none
 
--- an item's MAC ID Number. 19: "signature item lacks (0400,0005) as US of length 2"; an item of (4FFE,0001) has its number "as US of
--- length 2" too
+-- an item's MAC ID Number. 19: "the signature item has no (0400,0005) with VR US and length 2" (9.3); an item of (4FFE,0001) has its number
+-- "with VR US and length 2" too (20)
 unfoldable pub macIdOf : Elements → List ℕ → Option (List ℕ)
 macIdOf item d = twoBytes (valueOf US (elementOf macIdNumber item) d)
 
@@ -91,7 +92,8 @@ abbrev pub isId : (id : List ℕ) → Option (List ℕ) → Bool
 isId id Opt.none = false
 isId id (some other) = sameBytes other id
 
--- "the first item of (4FFE,0001) with the same MAC ID Number". 20: "no (4FFE,0001) of VR SQ with an item of that number, as US of length 2"
+-- 8.2: "the first in (4FFE,0001) whose MAC ID Number, (0400,0005), equals the signature item's". 20: "there is no (4FFE,0001) with VR SQ,
+-- or none of its items has the signature item's number in a (0400,0005) with VR US and length 2" (9.3)
 unfoldable pub parametersItem : (id : List ℕ) → Elements → List ℕ → Option Elements
 parametersItem id es d = itemWhere (λ index item. isId id (macIdOf item d)) (itemsOf (elementOf macParametersSequence es))
 
@@ -105,12 +107,12 @@ implicitVrLittleEndian =
 abbrev pub explicitVrBigEndian : List ℕ
 explicitVrBigEndian = implicitVrLittleEndian ++ 0x2E ∷ 0x32 ∷ []
 
--- "less one trailing NUL if it ends in one" (the default 1 is not NUL: an empty value ends in none)
+-- 21: "less one NUL where it ends in one" (the default 1 is not NUL: an empty value ends in none)
 unfoldable pub lessNul : List ℕ → List ℕ
 lessNul value = if eqb (getD value (length value - 1) 1) 0 then take (length value - 1) value else value
 
--- 21: "(0400,0010) absent, not UI, empty, or, less one trailing NUL if it ends in one, unequal to the caller's UID as given or equal to
--- 1.2.840.10008.1.2 or 1.2.840.10008.1.2.2"
+-- 21: "(0400,0010) is absent, is not UI or is empty; or its value, less one NUL where it ends in one, is not the caller's UID as it was
+-- given, or is 1.2.840.10008.1.2 or 1.2.840.10008.1.2.2" (9.3)
 unfoldable pub badTransferSyntax : (uid : List ℕ) → Option (List ℕ) → Bool
 badTransferSyntax uid Opt.none = true
 badTransferSyntax uid (some value) =
@@ -129,19 +131,19 @@ unfoldable pub onlySpaces : List ℕ → Bool
 onlySpaces [] = true
 onlySpaces (b ∷ rest) = eqb b 0x20 && onlySpaces rest
 
--- a Defined Term "with trailing spaces ignored": its bytes, and after them spaces alone (leading spaces are not ignored)
+-- a Defined Term, "spaces at its end aside" (22): its bytes, and after them spaces alone (leading spaces are not ignored)
 unfoldable pub isTerm : (term value : List ℕ) → Bool
 isTerm term value = sameBytes (take (length term) value) term && onlySpaces (drop (length term) value)
 
--- 22: "(0400,0015) absent, not CS, or not SHA256 with trailing spaces ignored"
+-- 22: "(0400,0015) is absent, is not CS, or is not SHA256, spaces at its end aside" (9.3)
 unfoldable pub badAlgorithm : Option (List ℕ) → Bool
 badAlgorithm Opt.none = true
 badAlgorithm (some value) = not (isTerm SHA256 value)
 
 -- ---- the selection, 18 to 23
 
--- what it gives: the number of a refusal; or the list ("The list is this parameters item's (0400,0020)") and the elements of the
--- signature item
+-- what it gives: the number of a refusal; or the list (8.3: "The list is the value of (0400,0020) of the parameters item.") and the
+-- elements of the signature item
 pub data Selection : Type 0 where
   refusal : (number : ℕ) → Selection
   selected : (list : List ℕ) (item : Elements) → Selection
@@ -151,7 +153,7 @@ abbrev pub need : {A : Type 0} → (number : ℕ) → Option A → (A → Select
 need number Opt.none on = refusal number
 need number (some a) on = on a
 
--- "21 to 23 look in the same item." 23: "(0400,0020) absent or not AT". `item` is the signature item.
+-- 8.3: "The numbers 21 to 23 are about this same item." 23: "(0400,0020) is absent or is not AT" (9.3). `item` is the signature item.
 unfoldable pub parametersSelect : (uid d : List ℕ) (item parameters : Elements) → Selection
 parametersSelect uid d item parameters =
     if badTransferSyntax uid (valueOf UI (elementOf macCalculationTransferSyntaxUid parameters) d) then refusal 21 else
@@ -159,7 +161,7 @@ parametersSelect uid d item parameters =
     need 23 (valueOf AT (elementOf dataElementsSigned parameters) d) λ list.
     selected list item
 
--- "18 to 23", in a data set whose elements are es
+-- "18 to 23" (9.5), in a data set whose elements are es
 unfoldable pub select : (uid : List ℕ) (number : ℕ) → Elements → (d : List ℕ) → Selection
 select uid number es d =
     need 18 (signatureItem number es) λ item.

@@ -1,5 +1,5 @@
--- Signature mode (a term of 01): "for one signature in the data set". What follows the listed elements in the stream, the order of the
--- numbers, and the call.
+-- Signature mode, a term of docs/RULES.md, 1.1: "for one of the signatures in the data set". What follows the listed elements in the stream
+-- (8.4, 8.5), the order of the numbers (9.5), and the call.
 -- Assumes nothing.
 use Prim.Native.Nat.{ℕ}
 use mathlib.Core.Bool.{Bool, _||_}
@@ -36,28 +36,30 @@ certifiedTimestampType = 0x04000305
 abbrev pub certifiedTimestamp : ℕ
 certifiedTimestamp = 0x04000310
 
--- the four named tags: "(0400,0115), (0400,0120), (0400,0305), (0400,0310)"
+-- the four named tags, 8.4: "(0400,0115), (0400,0120), (0400,0305) and (0400,0310)"
 unfoldable pub named : (tag : ℕ) → Bool
 named tag = eqb tag certificateOfSigner || (eqb tag signatureValue || (eqb tag certifiedTimestampType || eqb tag certifiedTimestamp))
 
--- "without (0400,0115), .., barred tags, UN elements and sequences with UN at any depth": even inside a barred element, as for 15
+-- 8.4: "Left out are (0400,0115), .., barred elements, UN elements, and sequences with a UN in them, however deep.": inside a barred
+-- element too, as for 15
 unfoldable pub leftOut : Element → Bool
 leftOut e = named (tagOf e) || (barred (tagOf e) || (isUN e || holdsUN e))
 
--- "After the listed elements come the signature item's own": those that are not left out. "the four named tags are left out at the item's
--- own level only": inside its sequences they are written. (Barred elements inside its sequences are left out by `elementsStream`.)
+-- 8.4: "the signature item's own elements": those that are not left out. 8.5: "The four tags named in 8.4 are left out only among the
+-- signature item's own elements, not deeper.": inside its sequences they are written. (Barred elements inside its sequences are left out by
+-- `elementsStream`.)
 unfoldable pub own : Elements → Elements
 own Elements.none = Elements.none
 own (Elements.and e rest) = if leftOut e then own rest else Elements.and e (own rest)
 
 -- ---- what is written
 
--- the stream: "After the listed elements come the signature item's own, by the same rules"
+-- the stream. 8.4: "After the listed elements the stream goes on with the signature item's own elements, by section 5."
 unfoldable pub streamBy : Selection → Elements → (d : List ℕ) → List ℕ
 streamBy (refusal number) es d = []
 streamBy (selected list item) es d = listedStream (tagsIn list) es d ++ elementsStream (own item) d
 
--- "18 to 23, 10, 11, 12, and on as before"
+-- 9.5: "18 to 23; 10; 11; 12; then for each tag in turn 13, 14, 15; then 9, 16"
 unfoldable pub answerBy : Selection → Elements → (d : List ℕ) (room : ℕ) (expected : Option (List ℕ)) → Answer
 answerBy (refusal number) es d room expected = refused number 0
 answerBy (selected list item) es d room expected =
@@ -65,9 +67,9 @@ answerBy (selected list item) es d room expected =
 
 -- ---- a call
 
--- A call in signature mode, for the stream or for the check: "the UID of the transfer syntax the caller says the data set has, and a
--- signature number, counted from 0, or none"; the data set; the output room (a term of 01: "the length of the output or, in a check, of the
--- work buffer"); and the expected digest, which a call for the stream has not.
+-- A call in signature mode, for the stream or for the check. 8.1: "the UID of the data set's transfer syntax"; a signature "by its number",
+-- or none; the data set; the output room (a term of RULES 7.2: "how many bytes the output has, or in a check the work buffer"); and the
+-- expected digest, which a call for the stream has not.
 pub record Call : Type 0 where
   pub uid : List ℕ
   pub which : Signature
@@ -75,7 +77,7 @@ pub record Call : Type 0 where
   pub room : ℕ
   pub expected : Option (List ℕ)
 
--- what the call selects: "18 to 23"
+-- what the call selects: "18 to 23" (9.5)
 abbrev pub selection : Call → Selection
 selection c = select (c .uid) (numberOf (c .which)) (tree (c .set)) (c .set)
 
@@ -83,7 +85,7 @@ selection c = select (c .uid) (numberOf (c .which)) (tree (c .set)) (c .set)
 unfoldable pub stream : Call → List ℕ
 stream c = streamBy (selection c) (tree (c .set)) (c .set)
 
--- "Signature mode: 1, 2 to 8, 18 to 23, 10, 11, 12, and on as before." 1 stands in `dataSet`.
+-- 9.5: "1; 2 to 8; 18 to 23; 10; 11; 12; then for each tag in turn 13, 14, 15; then 9, 16". 1 stands in `dataSet`.
 unfoldable pub answer : Call → Answer
 answer c = answerOf (dataSet (c .set)) orElse answerBy (selection c) (tree (c .set)) (c .set) (c .room) (c .expected)
 

@@ -1,4 +1,4 @@
--- The stream: 01, "The stream", its four rules.
+-- The stream: docs/RULES.md, 5.
 -- Assumes nothing.
 use Prim.Native.Nat.{ℕ, _+_}
 use mathlib.Core.List.{List, [], _∷_, _++_}
@@ -9,24 +9,25 @@ use Rattle.dataset.specs.Tree.{Span, Element, Elements, Items, tagOf}
 use Rattle.dataset.specs.Lookup.{elementOf}
 use Rattle.mac.specs.TagList.{barred, unlessBarred}
 
--- "for each item its four tag bytes": (FFFE,E000)
+-- 5.2: "the four bytes of the item's tag": (FFFE,E000)
 abbrev pub itemTagBytes : List ℕ
 itemTagBytes = 0xFE ∷ 0xFF ∷ 0x00 ∷ 0xE0 ∷ []
 
--- "then FE FF DD E0, present in the input or not": (FFFE,E0DD)
+-- 5.2: "and finally FE FF DD E0, whether the data set has a delimiter there or not": (FFFE,E0DD)
 abbrev pub sequenceDelimiterBytes : List ℕ
 sequenceDelimiterBytes = 0xFE ∷ 0xFF ∷ 0xDD ∷ 0xE0 ∷ []
 
--- "Undefined OB: likewise, with fragments' raw bytes."
+-- 5.3: "An OB of undefined length gives the same, with fragments for items and the unchanged bytes of each for what elements give."
 unfoldable pub fragmentsStream : List Span → List ℕ → List ℕ
 fragmentsStream [] d = sequenceDelimiterBytes
 fragmentsStream (s ∷ rest) d = itemTagBytes ++ (between d (s .start) (s .end) ++ fragmentsStream rest d)
 
 -- The stream of an element of the data set d.
--- "An element other than SQ and undefined OB: all its bytes, the length included."
--- "SQ: tag, VR, reserved; then for each item its four tag bytes and its elements by these rules; then FE FF DD E0 .. No lengths." (Tag, VR
--- and reserved are 8 bytes.)
--- "Barred elements inside a sequence are left out at every depth."
+-- 5.1: "An element that is neither an SQ nor an OB of undefined length gives all its bytes, also those of its length."
+-- 5.2: "An SQ gives its tag, its VR and its reserved bytes; then, item by item, the four bytes of the item's tag and what the item's
+-- elements give by these same rules; and finally FE FF DD E0, .. The lengths of the SQ and of its items are not given." (Tag, VR and
+-- reserved bytes are 8 bytes.)
+-- 5.4: "A barred element in a sequence gives nothing, however deep it stands."
 unfoldable mutual
   pub streamOf : Element → List ℕ → List ℕ
   streamOf (Element.value at tag vr span) d = between d at (span .end)
@@ -46,7 +47,7 @@ abbrev pub foundStream : Option Element → List ℕ → List ℕ
 foundStream Opt.none d = []
 foundStream (some e) d = streamOf e d
 
--- "Listed elements follow in list order."
+-- 5.5: "The listed elements come in the order of the list."
 unfoldable pub listedStream : (tags : List ℕ) → Elements → List ℕ → List ℕ
 listedStream [] es d = []
 listedStream (tag ∷ tags) es d = foundStream (elementOf tag es) d ++ listedStream tags es d

@@ -1,4 +1,4 @@
--- The tag list: 01, "The tag list", and the numbers 10, 11 and 12.
+-- The tag list: docs/RULES.md, 4, and the numbers 10, 11 and 12 (9.3).
 -- Assumes nothing.
 use Prim.Native.Nat.{ℕ, _+_, _*_, _%_, _/_}
 use mathlib.Core.Bool.{Bool, true, false, _||_}
@@ -10,7 +10,7 @@ use Rattle.answer.specs.declared.Answer.{Answer}
 use Rattle.answer.specs.Answer.{accepted, refused, _orElse_}
 use Rattle.dataset.specs.Bytes.{tagAt}
 
--- "Four bytes a tag, coded as above". Bytes left over are not seen: 10 comes before.
+-- 4.1: "Each tag takes four bytes, coded as in a data set." Bytes left over are not seen: 10 comes before.
 unfoldable pub tagsIn : List ℕ → List ℕ
 tagsIn (a ∷ b ∷ c ∷ d ∷ rest) = tagAt (a ∷ b ∷ c ∷ d ∷ []) 0 ∷ tagsIn rest
 tagsIn [] = []
@@ -18,8 +18,8 @@ tagsIn (a ∷ []) = []
 tagsIn (a ∷ b ∷ []) = []
 tagsIn (a ∷ b ∷ c ∷ []) = []
 
--- Barred, a term of 01: "Barred (001): element number 0000; (0008,0001); groups below 0008; group FFFA; (4FFE,0001); (FFFC,FFFC);
--- (FFFE,E00D)."
+-- Barred, a term of RULES 4.3: "any with element number 0000; (0008,0001); any of a group below 0008; any of group FFFA; (4FFE,0001);
+-- (FFFC,FFFC); (FFFE,E00D)."
 unfoldable pub barred : (tag : ℕ) → Bool
 barred tag =
     eqb (tag % 65536) 0
@@ -30,27 +30,27 @@ barred tag =
     || (eqb tag 0xFFFCFFFC
     || eqb tag 0xFFFEE00D)))))
 
--- what an element adds to the rest of a row, by whether it is barred: "Barred elements .. are left out"
+-- what an element adds to the rest of a row, by whether it is barred. 5.4: "A barred element in a sequence gives nothing"
 abbrev pub unlessBarred : {A : Type 0} → (isBarred : Bool) (add : A → A) (rest : A) → A
 unlessBarred true add rest = rest
 unlessBarred false add rest = add rest
 
--- 10: "list empty, over 1,024 tags, or not a multiple of 4 bytes"
+-- 10: "the list is empty, has more than 1,024 tags, or is not a multiple of 4 bytes long" (9.3)
 unfoldable pub badSize : (bytes : ℕ) → Bool
 badSize bytes = eqb bytes 0 || (ltb (4 * 1024) bytes || ltb 0 (bytes % 4))
 
--- 11: "a tag not above the one before it", the first that fits. `index` is that of the first tag here, `least` one more than the tag
--- before it, or 0 where there is none.
+-- 11: "a tag of the list is not above the one before it" (9.3), at "the first tag for which the condition holds" (9.2). `index` is that of
+-- the first tag here, `least` one more than the tag before it, or 0 where there is none.
 unfoldable pub ascendingAnswer : (index least : ℕ) → List ℕ → Answer
 ascendingAnswer index least [] = accepted 0
 ascendingAnswer index least (tag ∷ tags) = if ltb tag least then refused 11 index else ascendingAnswer (index + 1) (tag + 1) tags
 
--- 12: "barred tag", the first that fits
+-- 12: "a tag of the list is barred" (9.3), likewise at the first
 unfoldable pub unbarredAnswer : (index : ℕ) → List ℕ → Answer
 unbarredAnswer index [] = accepted 0
 unbarredAnswer index (tag ∷ tags) = if barred tag then refused 12 index else unbarredAnswer (index + 1) tags
 
--- "10, 11 over the whole list, 12 over the whole list"
+-- 9.4: "10; 11 over the whole list; 12 over the whole list"
 unfoldable pub listAnswer : List ℕ → Answer
 listAnswer list =
     (if badSize (length list) then refused 10 0 else accepted 0) orElse ascendingAnswer 0 0 (tagsIn list) orElse unbarredAnswer 0 (tagsIn list)

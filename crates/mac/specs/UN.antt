@@ -5,11 +5,11 @@ use lib.Dec.{eqb}
 use Rattle.dataset.specs.Vr.{UN}
 use Rattle.dataset.specs.Tree.{Element, Elements, Items, vrOf}
 
--- 14: "listed element is UN"; of the signature item's own: "UN elements"
+-- 14: "a listed element is a UN" (RULES, 9.3); of the signature item's own: "UN elements" (8.4)
 abbrev pub isUN : Element → Bool
 isUN e = eqb (vrOf e) UN
 
--- 15: "a sequence with a UN element at any depth, even inside a barred element"
+-- 15: "a listed sequence has a UN in it" (9.3), "however deep, inside a barred element included" (4.5)
 unfoldable mutual
   pub holdsUN : Element → Bool
   holdsUN (Element.value at tag vr span) = false

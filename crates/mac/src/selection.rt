@@ -151,7 +151,7 @@ fn find_item_under(d: &[u8], p: Place, key: ItemKey) -> FoundItem
     find_item(d, x, key)
 }
 
-// How many bytes a value has, less one trailing NUL.
+// How many bytes a value has, less one NUL where it ends in one.
 fn less_nul(value: &[u8]) -> usize
     ensures { λ r. ⌜ LessNul (now (value .entry)) r ⌝ }
 {
@@ -210,7 +210,7 @@ fn only_spaces(s: &[u8]) -> bool
     true
 }
 
-// Whether a value is SHA256, with trailing spaces ignored.
+// Whether a value is SHA256, spaces at its end aside.
 fn is_sha256(value: &[u8]) -> bool
     ensures { λ r. ⌜ r ≡ isTerm SHA256 (now (value .entry)) ⌝ }
 {

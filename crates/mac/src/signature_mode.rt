@@ -20,7 +20,7 @@ pub enum Signature {
     Number(u64),
 }
 
-// The number of a signature; none means 0.
+// The number of a signature; where no number is given, 0 is taken.
 fn number_of(which: Signature) -> u64
     ensures { λ r. ⌜ r ≡ numberOf which ⌝ }
 {

@@ -71,7 +71,7 @@ fn barred_answer(list: &[u8]) -> Answer
     Answer::accepted(0)
 }
 
-// The first fault of a tag list: 10, 11 over the whole list, 12 over the whole list.
+// The first fault of a tag list: 10; 11 over the whole list; 12 over the whole list.
 pub(crate) fn list_answer(list: &[u8]) -> Answer
     ensures { λ r. ⌜ r ≡ listAnswer (now (list .entry)) ⌝ }
 {

@@ -10,7 +10,7 @@ ghost use Rattle.mac.specs.Modes.{badDigestLength};
 ghost use Rattle.mac.specs.Result.{verdictCode, compared};
 ghost use Rattle.mac.specs.Inner.Verdict.{CheckOf};
 
-// Whether the digest of the stream is the expected one; a refused check says neither.
+// Whether the digest of the stream is the expected one; a check that is refused says neither of the two.
 pub enum Verdict {
     Neither,
     Same,

@@ -1,4 +1,4 @@
--- The stream program: 01, "The stream program".
+-- The stream program: docs/RULES.md, 11.
 -- Assumes nothing.
 use Prim.Native.Nat.{ℕ, _+_, _*_, _^_}
 use mathlib.Core.Path.{_≡_}
@@ -19,20 +19,20 @@ use Rattle.mac_frame.specs.declared.frame.Frame.the-variants as frame
 
 -- Frame (src/frame.rt): Bad | ListEnds end
 
--- "Standard input, at most 65,536 bytes"
+-- 11.1: "Its input is a frame of at most 65,536 bytes"
 abbrev pub inputLimit : ℕ
 inputLimit = 65536
 
--- "It runs list mode with 65,536 bytes of output room."
+-- 11.2: "the output room is 65,536 bytes"
 abbrev pub outputRoom : ℕ
 outputRoom = 65536
 
--- the "four-byte big-endian length" at i
+-- the length at i, "itself four bytes with the high byte first" (11.1)
 unfoldable pub big32 : List ℕ → (i : ℕ) → ℕ
 big32 s i = getD s i 0 * 2 ^ 24 + getD s (i + 1) 0 * 2 ^ 16 + getD s (i + 2) 0 * 2 ^ 8 + getD s (i + 3) 0
 
--- "version byte 1; four-byte big-endian length; list; four-byte big-endian length; data set; nothing after": where the list ends, or a bad
--- frame. (5 bytes: version and first length; 9: with the second length.)
+-- 11.1: "the byte 1 for the version; a length in bytes, .., and a list of that length; a length likewise, and a data set of that length;
+-- and no byte more": where the list ends, or a bad frame. (5 bytes: version and first length; 9: with the second length.)
 unfoldable pub frameOf : List ℕ → Frame
 frameOf s =
     if ltb inputLimit (length s) then frame.Bad else
@@ -46,11 +46,11 @@ frameOf s =
 abbrev pub frameCall : List ℕ → (end : ℕ) → Call
 frameCall s end = record { list = between s 5 end; set = between s (end + 4) (length s); room = outputRoom; expected = Opt.none }
 
--- "It prints answer, position and length .., then for answer 0 the stream in lower-case hex"
+-- 11.3: "It prints number, position and length ..; then, for number 0, the stream in hex"
 unfoldable pub report : Call → List ℕ
 report c = line (answer c) ++ (if isAccepted (result c) then hexLines (stream c) else [])
 
--- "Otherwise 24, before all else."
+-- 11.1: "Any other input gives 24, before every other number."
 abbrev pub printedBy : Frame → List ℕ → List ℕ
 printedBy frame.Bad s = line (refused 24 0)
 printedBy (frame.ListEnds end) s = report (frameCall s end)

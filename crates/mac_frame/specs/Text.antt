@@ -1,4 +1,4 @@
--- What the stream program prints, in bytes of text: 01, "The stream program".
+-- What the stream program prints, in bytes of text: docs/RULES.md, 11.3.
 -- Assumes nothing.
 use Prim.Native.Nat.{ℕ, zero, suc, _+_, _/_, _%_}
 use mathlib.Core.Bool.{Bool, true, false, _||_}
@@ -22,7 +22,7 @@ unfoldable pub decimalBy : (k n : ℕ) → List ℕ
 decimalBy zero n = []
 decimalBy (suc k) n = if ltb n 10 then digit n ∷ [] else decimalBy k (n / 10) ++ (digit (n % 10) ∷ [])
 
--- "in decimal": n + 1 steps are enough
+-- "in decimal" (11.3): n + 1 steps are enough
 unfoldable pub decimal : ℕ → List ℕ
 decimal n = decimalBy (suc n) n
 
@@ -30,7 +30,7 @@ decimal n = decimalBy (suc n) n
 unfoldable pub decimalThen : (n end : ℕ) → List ℕ
 decimalThen n end = decimal n ++ (end ∷ [])
 
--- "answer, position and length in decimal with single spaces"
+-- 11.3: "number, position and length in decimal, with one space between"
 unfoldable pub line : Answer → List ℕ
 line a = decimalThen (a .number) space ++ (decimalThen (a .position) space ++ decimalThen (a .length) newline)
 
@@ -47,7 +47,7 @@ abbrev pub lineEnd : Bool → List ℕ
 lineEnd true = newline ∷ []
 lineEnd false = []
 
--- "in lower-case hex, 32 bytes a line": the bytes from a column on; a line ends after its 32nd byte and after the last
+-- 11.3: "in hex, in lower case, 32 bytes a line": the bytes from a column on; a line ends after its 32nd byte and after the last
 unfoldable pub hexFrom : (column : ℕ) → List ℕ → List ℕ
 hexFrom column [] = []
 hexFrom column (b ∷ rest) = hex b ++ (lineEnd (eqb column 31 || isEmpty rest) ++ hexFrom ((column + 1) % 32) rest)

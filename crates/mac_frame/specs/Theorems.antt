@@ -10,7 +10,8 @@ use Rattle.mac.specs.ListMode.{Call}
 use Rattle.mac_frame.specs.Frame.{inputLimit, outputRoom, big32, frameOf, frameCall, printed}
 use Rattle.mac_frame.specs.declared.frame.Frame.the-variants as frame
 
--- "at most 65,536 bytes: version byte 1; four-byte big-endian length; list; four-byte big-endian length; data set; nothing after"
+-- RULES, 11.1: "a frame of at most 65,536 bytes: the byte 1 for the version; a length in bytes, itself four bytes with the high byte first,
+-- and a list of that length; a length likewise, and a data set of that length; and no byte more"
 pub record Framed (s list set : List ℕ) : Type 0 where
   pub n : List ℕ
   pub m : List ℕ
@@ -19,7 +20,7 @@ pub record Framed (s list set : List ℕ) : Type 0 where
   pub is : s ≡ 1 ∷ (n ++ (list ++ (m ++ set)))
   pub small : length s ≤ inputLimit
 
--- "It runs list mode with 65,536 bytes of output room."
+-- 11.2: "Its call is one of list mode; the output room is 65,536 bytes."
 abbrev pub callOf : (list set : List ℕ) → Call
 callOf list set = record { list = list; set = set; room = outputRoom; expected = Opt.none }
 

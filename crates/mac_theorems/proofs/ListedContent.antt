@@ -56,7 +56,7 @@ module _ (d : List ℕ) (within : WithinSize d) (es : Elements) (left floor at n
       let f = found-at tag es d left floor at next lies (j .element) (j .found) in
       subst ElementsFit (j .is) (element-fits (j .element) d within left (f .from) (f .mid) (f .lies), content-fits tags (j .rest) (j .others))
 
--- ---- the same content in another data set, with no UN inside a listed sequence in either: the same of 13, 14 and 15
+-- ---- the same content in another data set, with no UN in a listed sequence of either: the same of 13, 14 and 15
 
 -- the VR stands in the signed content
 abbrev signedVr : SignedElement → ℕ

@@ -1,5 +1,5 @@
--- Demand 3, which 01 cites by its number; its words stand in docs/DECISIONS.md, L12. 01, "The stream": "Demand 3 speaks of every call in
--- list mode, for the stream or for the check." All of it is the record Demand3, proved in proofs/Demand3.antt.
+-- Demand 3: docs/RULES.md, 1.8. 7.6: "Every call of list mode falls under demand 3, be it for the stream or for the check." All of it is
+-- the record Demand3, proved in proofs/Demand3.antt.
 -- Assumes nothing.
 use Prim.Native.Nat.{ℕ}
 use mathlib.Core.Path.{_≡_}
@@ -22,16 +22,16 @@ use Rattle.mac.specs.ListMode.{Call, contentOf, stream, answer, streamCall, che
 use Rattle.mac.specs.declared.verdict.Verdict.the-variants as verdict
 use Rattle.mac.specs.declared.verdict.Checked.{Checked}
 
--- accepted, a term of 01: "when its number is 0"
+-- accepted, a term of RULES 7.1: "A call with number 0 is accepted."
 abbrev pub Accepted : Call → Type 0
 Accepted c = isAccepted (result c) ≡ true
 
--- "Something signed is in fragments"
+-- 6.5: "has something signed in fragments"
 abbrev pub signedInFragments : Option SignedElements → Bool
 signedInFragments Opt.none = false
 signedInFragments (some es) = someInFragments es
 
--- UN "inside a listed sequence", which "means at any depth, even inside a barred element, as for 15"
+-- 7.7: a UN "in a listed sequence", which it is "however deep it stands, inside a barred element too, as in 4.5"
 abbrev pub foundHoldsUN : Option Element → Bool
 foundHoldsUN Opt.none = false
 foundHoldsUN (some e) = holdsUN e
@@ -44,7 +44,7 @@ listedHoldUN (tag ∷ tags) es = foundHoldsUN (elementOf tag es) || listedHoldUN
 abbrev pub on : Call → List ℕ → Call
 on c s = record { list = c .list; set = s; room = c .room; expected = c .expected }
 
--- First half, of two accepted calls, whatever their data sets and lists. Nothing signed is in fragments in one of them; of the other
+-- First half (1.8), of two accepted calls, whatever their data sets and lists. Nothing signed is in fragments in one of them; of the other
 -- nothing is asked (docs/DECISIONS.md, L13).
 abbrev pub FirstHalf : Type 0
 FirstHalf =
@@ -57,14 +57,14 @@ pub record SameResult (c k : Call) : Type 0 where
   pub verdict : verdictOf (result k) ≡ verdictOf (result c)
   pub streams : stream k ≡ stream c
 
--- the call's data set is well-formed, holds every listed tag, and has no UN inside a listed sequence
+-- the call's data set is well-formed, holds every listed tag, and has no UN in a listed sequence
 pub record HasSignedContent (c : Call) : Type 0 where
   pub wellFormed : WellFormed (c .set)
   pub holds : contentOf c ≢ Opt.none
   pub known : listedHoldUN (tagsIn (c .list)) (tree (c .set)) ≡ false
 
--- Second half, of a call, refused or not, fragments or not, that has a signed content: the same call on another data set with the same
--- signed content has the same result (docs/DECISIONS.md, L12).
+-- Second half (1.8), of a call, refused or not, fragments or not, that has a signed content: the same call on another data set with the
+-- same signed content has the same result (docs/DECISIONS.md, L12).
 abbrev pub SecondHalf : Type 0
 SecondHalf =
     (c : Call) (s : List ℕ) → OfBytes (c .set) → OfBytes s → HasSignedContent c → HasSignedContent (on c s)
@@ -78,7 +78,7 @@ pub record Run (c : Call) (out : List ℕ) (r : Checked) (after : List ℕ) : Ty
   pub says : r .verdict ≡ verdictOf (result c)
   pub output : after ≡ outputAfter (result c) out
 
--- the stream that a call has written: "the first length bytes" of the output
+-- the stream that a call has written. 7.3: "at the start of the output ..; the answer's length is the stream's."
 abbrev pub written : Checked → List ℕ → List ℕ
 written r after = take (r .answer .length) after
 
@@ -90,7 +90,8 @@ FirstHalfOfCalls =
     → signedInFragments (contentOf c) ≡ false
     → (written r after ≡ written r′ after′) ↔ (contentOf c ≡ contentOf k)
 
--- "the two answers are equal, in a check the verdict too, and so are the first length bytes of the two outputs or work buffers"
+-- 7.8: "the two calls have equal answers and, if they are checks, equal verdicts; and their outputs or work buffers start with the same
+-- bytes, as many as the answers' length."
 pub record SameRun (r r′ : Checked) (after after′ : List ℕ) : Type 0 where
   pub answers : r′ .answer ≡ r .answer
   pub verdict : r′ .verdict ≡ r .verdict
@@ -113,7 +114,7 @@ CheckRuns =
     (list set expected work after : List ℕ) (r : Checked) → CheckedAs (result (checkCall list set expected work)) work r after
     → Run (checkCall list set expected work) work r after
 
--- The data set of an accepted call is well-formed, holds every listed tag and has no UN inside a listed sequence: the second half speaks of
+-- The data set of an accepted call is well-formed, holds every listed tag and has no UN in a listed sequence: the second half speaks of
 -- every accepted call.
 abbrev pub AcceptedHasContent : Type 0
 AcceptedHasContent = (c : Call) → Accepted c → HasSignedContent c

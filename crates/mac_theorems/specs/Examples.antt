@@ -1,5 +1,5 @@
--- The starred examples of 01, "Examples", 1 to 10: calls for the stream, what each gives back, and the signed contents of 5, 6 and 9.
--- Proved in proofs/Examples.antt.
+-- The starred examples, docs/RULES.md, 15.1 to 15.10: calls for the stream, what each gives back, and the signed contents of 15.5, 15.6 and
+-- 15.9. Proved in proofs/Examples.antt.
 -- Assumes nothing.
 use Prim.Native.Nat.{ℕ}
 use mathlib.Core.Path.{_≡_}
@@ -42,7 +42,7 @@ refuses list set room number position = record { list = list; set = set; room = 
 
 -- ---- the parts
 
--- "A = 08 00 60 00 43 53 02 00 43 54. B = 10 00 10 00 50 4E 02 00 4C 69. S = 08 00 00 01 53 48 02 00 41 31."
+-- 15: "A = 08 00 60 00 43 53 02 00 43 54. B = 10 00 10 00 50 4E 02 00 4C 69. S = 08 00 00 01 53 48 02 00 41 31."
 abbrev pub A : List ℕ
 A = 0x08 ∷ 0x00 ∷ 0x60 ∷ 0x00 ∷ 0x43 ∷ 0x53 ∷ 0x02 ∷ 0x00 ∷ 0x43 ∷ 0x54 ∷ []
 
@@ -52,7 +52,7 @@ B = 0x10 ∷ 0x00 ∷ 0x10 ∷ 0x00 ∷ 0x50 ∷ 0x4E ∷ 0x02 ∷ 0x00 ∷ 0x4C
 abbrev S : List ℕ
 S = 0x08 ∷ 0x00 ∷ 0x00 ∷ 0x01 ∷ 0x53 ∷ 0x48 ∷ 0x02 ∷ 0x00 ∷ 0x41 ∷ 0x31 ∷ []
 
--- "B with length 3 and a third letter"
+-- 15.4: "B with the length 3 and a third letter"
 abbrev B3 : List ℕ
 B3 = 0x10 ∷ 0x00 ∷ 0x10 ∷ 0x00 ∷ 0x50 ∷ 0x4E ∷ 0x03 ∷ 0x00 ∷ 0x4C ∷ 0x69 ∷ 0x6E ∷ []
 
@@ -96,23 +96,23 @@ itemDelimiter = 0xFE ∷ 0xFF ∷ 0x0D ∷ 0xE0 ∷ []
 abbrev pub sequenceDelimiter : List ℕ
 sequenceDelimiter = 0xFE ∷ 0xFF ∷ 0xDD ∷ 0xE0 ∷ []
 
--- ---- the data sets and streams of the examples 5 to 9
+-- ---- the data sets and streams of the examples 15.5 to 15.9
 
--- "40 00 30 A7 53 51 00 00 12 00 00 00, FE FF 00 E0 0A 00 00 00, S (30 bytes)"
+-- 15.5: "40 00 30 A7 53 51 00 00 12 00 00 00, then FE FF 00 E0 0A 00 00 00, then S (30 bytes in all)"
 abbrev defined : List ℕ
 defined = contentSequence ++ SQreserved ++ fourByteLength 0x12 ++ item ++ fourByteLength 0x0A ++ S
 
--- "The same, both lengths undefined and both delimiters present (46 bytes)"
+-- 15.6: "The same with both lengths undefined and both delimiters there (46 bytes)"
 abbrev delimited : List ℕ
 delimited =
     contentSequence ++ SQreserved ++ undefined ++ item ++ undefined ++ S
     ++ itemDelimiter ++ fourByteLength 0 ++ sequenceDelimiter ++ fourByteLength 0
 
--- "40 00 30 A7 53 51 00 00, FE FF 00 E0, S, FE FF DD E0 (26 bytes)"
+-- 15.5: "40 00 30 A7 53 51 00 00, FE FF 00 E0, S, FE FF DD E0 (26 bytes in all)"
 abbrev sequenceStream : List ℕ
 sequenceStream = contentSequence ++ SQreserved ++ item ++ S ++ sequenceDelimiter
 
--- "The same sequence with no item"
+-- 15.7: "The same sequence without an item"
 abbrev noItem : List ℕ
 noItem = contentSequence ++ SQreserved ++ fourByteLength 0
 
@@ -123,7 +123,8 @@ noItemDelimited = contentSequence ++ SQreserved ++ undefined ++ sequenceDelimite
 abbrev noItemStream : List ℕ
 noItemStream = contentSequence ++ SQreserved ++ sequenceDelimiter
 
--- "E0 7F 10 00 4F 42 00 00 FF FF FF FF with fragments AA BB and CC DD, or with the one fragment AA BB FE FF 00 E0 CC DD"
+-- 15.9: "E0 7F 10 00 4F 42 00 00 FF FF FF FF, once with the fragments AA BB and CC DD,
+-- once with the single fragment AA BB FE FF 00 E0 CC DD"
 abbrev fragmented : (fragments : List ℕ) → List ℕ
 fragmented fragments = pixelData ++ OBreserved ++ undefined ++ fragments ++ sequenceDelimiter ++ fourByteLength 0
 
@@ -139,20 +140,20 @@ fragmentsStream = pixelData ++ OBreserved ++ item ++ 0xAA ∷ 0xBB ∷ item ++ 0
 -- ---- the examples, by their numbers; the room of 32 bytes is more than enough
 unfoldable pub examples : List Example
 examples =
-    accepts modality (A ++ B) 32 10 A  -- 1
-    ∷ refuses absent (A ++ B) 32 13 0  -- 2
-    ∷ refuses patientName (B ++ A) 32 4 10  -- 3
-    ∷ refuses patientName B3 32 7 0  -- 4
-    ∷ accepts contentSequence defined 32 26 sequenceStream  -- 5
-    ∷ accepts contentSequence delimited 32 26 sequenceStream  -- 6
-    ∷ accepts contentSequence noItem 32 12 noItemStream  -- 7
-    ∷ accepts contentSequence noItemDelimited 32 12 noItemStream  -- 7, with undefined length
-    ∷ accepts contentSequence defined 26 26 sequenceStream  -- 8
-    ∷ refuses contentSequence defined 25 16 0  -- 8
-    ∷ accepts pixelData twoFragments 32 24 fragmentsStream  -- 9
-    ∷ accepts pixelData oneFragment 32 24 fragmentsStream  -- 9
-    ∷ refuses modality [] 32 13 0  -- 10
-    ∷ refuses [] [] 32 10 0  -- 10
+    accepts modality (A ++ B) 32 10 A  -- 15.1
+    ∷ refuses absent (A ++ B) 32 13 0  -- 15.2
+    ∷ refuses patientName (B ++ A) 32 4 10  -- 15.3
+    ∷ refuses patientName B3 32 7 0  -- 15.4
+    ∷ accepts contentSequence defined 32 26 sequenceStream  -- 15.5
+    ∷ accepts contentSequence delimited 32 26 sequenceStream  -- 15.6
+    ∷ accepts contentSequence noItem 32 12 noItemStream  -- 15.7
+    ∷ accepts contentSequence noItemDelimited 32 12 noItemStream  -- 15.7, with undefined length
+    ∷ accepts contentSequence defined 26 26 sequenceStream  -- 15.8
+    ∷ refuses contentSequence defined 25 16 0  -- 15.8
+    ∷ accepts pixelData twoFragments 32 24 fragmentsStream  -- 15.9
+    ∷ accepts pixelData oneFragment 32 24 fragmentsStream  -- 15.9
+    ∷ refuses modality [] 32 13 0  -- 15.10
+    ∷ refuses [] [] 32 10 0  -- 15.10
     ∷ []
 
 abbrev pub ExamplesHold : Type 0
@@ -186,8 +187,8 @@ twoFragmentsContent = fragmentsContent ((0xAA ∷ 0xBB ∷ []) ∷ (0xCC ∷ 0xD
 abbrev oneFragmentContent : SignedElements
 oneFragmentContent = fragmentsContent ((0xAA ∷ 0xBB ∷ 0xFE ∷ 0xFF ∷ 0x00 ∷ 0xE0 ∷ 0xCC ∷ 0xDD ∷ []) ∷ [])
 
--- The data sets of examples 5 and 6 have one signed content; those of 9, which have one stream, have two. "This is why the first half of
--- demand 3 leaves out fragments."
+-- The data sets of 15.5 and 15.6 have one signed content; those of 15.9, which have one stream, have two. "This is the reason why fragments
+-- are excepted in the first half of demand 3." (15.9)
 pub record ContentsHold : Type 0 where
   pub of5 : contentIn contentSequence defined ≡ some sequenceContent
   pub of6 : contentIn contentSequence delimited ≡ some sequenceContent

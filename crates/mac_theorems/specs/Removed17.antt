@@ -1,6 +1,6 @@
--- A rule of 01 that was removed (docs/changes/P10.md): number 17, "UN met inside a sequence being written (position 0)", at the end of both
--- orders, "then 9, 16, 17". Here it stands once more, with the orders as they were, and the theorem that every call answers the same
--- without it.
+-- A rule that was removed (docs/changes/P10.md): number 17, with position 0, for a sequence that has a UN in what is written of it; it was
+-- the last of both orders, after 9 and 16. Here it stands once more, with the orders as they were, and the theorem that every call answers
+-- the same without it.
 -- Assumes nothing.
 use Prim.Native.Nat.{ℕ}
 use mathlib.Core.Path.{_≡_}
@@ -43,7 +43,7 @@ unfoldable mutual
   itemsWriteUN SignedItems.last = false
   itemsWriteUN (SignedItems.item elements rest) = elementsWriteUN elements || itemsWriteUN rest
 
--- "UN met inside a sequence being written"
+-- some sequence has a UN in what is written of it
 unfoldable pub sequencesWriteUN : SignedElements → Bool
 sequencesWriteUN SignedElements.none = false
 sequencesWriteUN (SignedElements.and (SignedElement.value tag vr bytes) rest) = sequencesWriteUN rest
@@ -61,7 +61,7 @@ signatureWritesUN list item es d = contentWritesUN (content (tagsIn list) es d) 
 
 -- ---- the orders as they were
 
--- "then tag by tag 13, 14, 15; then 9, 16, 17": `answerFrom13`, with 17 in its place
+-- 13, 14, 15 for each tag in turn, then 9, 16, 17: `answerFrom13`, with 17 in its place
 unfoldable pub answerFrom13With17 : (tags : List ℕ) → Elements → (metUN : Bool) (stream : List ℕ) (room : ℕ) (expected : Option (List ℕ)) → Answer
 answerFrom13With17 tags es metUN stream room expected =
     tagsAnswer 0 tags es
@@ -70,7 +70,7 @@ answerFrom13With17 tags es metUN stream room expected =
     orElse (if metUN then refused 17 0 else accepted 0)
     orElse accepted (length stream)
 
--- "List mode: 1, 10, 11 over the whole list, 12 over the whole list, 2 to 8, then tag by tag 13, 14, 15; then 9, 16, 17."
+-- the order of list mode (docs/RULES.md, 9.4), with 17 behind 16
 unfoldable pub listModeWith17 : listMode.Call → Answer
 listModeWith17 c =
     (if ltb sizeLimit (length (c .set)) then refused 1 0 else accepted 0)
@@ -78,14 +78,14 @@ listModeWith17 c =
     orElse answerOf (dataSet (c .set))
     orElse answerFrom13With17 (tagsIn (c .list)) (tree (c .set)) (contentWritesUN (listMode.contentOf c)) (listMode.stream c) (c .room) (c .expected)
 
--- "18 to 23, 10, 11, 12, and on as before"
+-- the order of signature mode from 18 on (9.5), with 17 behind 16
 unfoldable pub answerByWith17 : Selection → Elements → (d : List ℕ) (room : ℕ) (expected : Option (List ℕ)) → Answer
 answerByWith17 (refusal number) es d room expected = refused number 0
 answerByWith17 (selected list item) es d room expected =
     listAnswer list
     orElse answerFrom13With17 (tagsIn list) es (signatureWritesUN list item es d) (streamBy (selected list item) es d) room expected
 
--- "Signature mode: 1, 2 to 8, 18 to 23, 10, 11, 12, and on as before."
+-- the whole order of signature mode (9.5), with 17 behind 16
 unfoldable pub signatureModeWith17 : signatureMode.Call → Answer
 signatureModeWith17 c =
     answerOf (dataSet (c .set)) orElse answerByWith17 (signatureMode.selection c) (tree (c .set)) (c .set) (c .room) (c .expected)

@@ -1,5 +1,5 @@
 -- Examples of signature mode: one small data set; one whose signature item has every kind of element that is left out; and from the first,
--- each of 18 to 23 and 10. They are ours: 01 has none for this mode. Proved together in proofs/SignatureExamples.antt.
+-- each of 18 to 23 and 10. docs/RULES.md, 15, has none for this mode. Proved together in proofs/SignatureExamples.antt.
 -- Assumes nothing.
 use Prim.Native.Nat.{ℕ, _+_}
 use mathlib.Core.Path.{_≡_}

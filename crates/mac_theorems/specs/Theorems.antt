@@ -40,8 +40,8 @@ pub record Numbers : Type 0 where
   pub most : (c : EitherCall) → resultOf c .answer .number ≤ highest c
   pub of-stream : (c : EitherCall) → resultOf c .expected ≡ Opt.none → resultOf c .answer .number ≢ 9
 
--- "Positions: 2 to 8 an offset in the data set; 11 to 15 an index into the list from 0 ..; others 0." An offset may be the data set's
--- length, where a header is missing.
+-- RULES, 9.2: "The position is, for 2 to 8, an offset in the data set; for 11 to 15 an index into the list, counted from 0, ..; for every
+-- other number 0." An offset may be the data set's length, where a header is missing.
 pub record Positioned (size count : ℕ) (a : Answer) : Type 0 where
   pub offset : 2 ≤ a .number → a .number ≤ 8 → a .position ≤ size
   pub index : 11 ≤ a .number → a .number ≤ 15 → a .position < count
@@ -52,8 +52,8 @@ pub record Positioned (size count : ℕ) (a : Answer) : Type 0 where
 abbrev pub Positions : Type 0
 Positions = (c : EitherCall) → Positioned (length (setOf c)) (length (tagsIn (listOf c))) (resultOf c .answer)
 
--- "For 0 the position is 0 and the first length bytes of the output are the stream; later bytes are untouched." The output keeps its
--- length.
+-- 9.1: "With number 0 the position is 0." 7.3: "An accepted call puts the stream at the start of the output and changes no later byte; the
+-- answer's length is the stream's." The output keeps its length.
 pub record StreamIn (c : Result) (out : List ℕ) : Type 0 where
   pub answers : c .answer ≡ accepted (length (c .stream))
   pub first : take (c .answer .length) (outputAfter c out) ≡ c .stream
@@ -63,7 +63,7 @@ pub record StreamIn (c : Result) (out : List ℕ) : Type 0 where
 abbrev pub AcceptedOutput : Type 0
 AcceptedOutput = (c : EitherCall) (out : List ℕ) → isAccepted (resultOf c) ≡ true → roomOf c ≡ length out → StreamIn (resultOf c) out
 
--- "A refusal has length 0 and touches no output byte."
+-- 7.3: "A refused call changes no byte of the output and has length 0."
 pub record NothingIn (c : Result) (out : List ℕ) : Type 0 where
   pub nothing : c .answer .length ≡ 0
   pub untouched : outputAfter c out ≡ out
@@ -91,7 +91,7 @@ pub record ChecksAsStream : Type 0 where
 
 -- ---- the length of the stream
 
--- "The stream is never longer than the data set.": wherever a list is there and not refused, so in every accepted call (where nothing is
+-- 5.6: "No stream has more bytes than its data set.": wherever a list is there and not refused, so in every accepted call (where nothing is
 -- selected the list is empty, so 10)
 abbrev pub NeverLonger : Type 0
 NeverLonger = (c : EitherCall) → listAnswer (listOf c) .number ≡ 0 → length (resultOf c .stream) ≤ length (setOf c)
@@ -106,8 +106,9 @@ EnoughRoom = (c : EitherCall) → length (setOf c) ≤ roomOf c → resultOf c .
 abbrev pub asList : signatureMode.Call → (list : List ℕ) → listMode.Call
 asList c list = record { list = list; set = c .set; room = c .room; expected = c .expected }
 
--- The stream is list mode's for the list that is selected, and after it the signature item's own elements. "10, 11, 12, and on as before":
--- where list mode refuses, signature mode gives the same answer; else only 16 can come, for the whole stream.
+-- The stream is list mode's for the list that is selected, and after it the signature item's own elements. 9.5: "10; 11; 12; then for each
+-- tag in turn 13, 14, 15; then 9, 16", as in list mode: where list mode refuses, signature mode gives the same answer; else only 16 can
+-- come, for the whole stream.
 pub record ListsFirst (c : signatureMode.Call) (list : List ℕ) (item : Elements) : Type 0 where
   pub streams : signatureMode.stream c ≡ listMode.stream (asList c list) ++ elementsStream (own item) (c .set)
   pub answers : signatureMode.answer c
