@@ -10,7 +10,7 @@ static const char *const eddyplume_sentences[26] = {
     "The elements of the study are not in order.",
     "The study has an element of an unknown type.",
     "The study has an element that is not coded as the standard says.",
-    "The study has an element of odd length, for instance a name cut in the middle of a character.",
+    "The study has a part of odd length, for instance a name cut in the middle of a character, or one whose length is left open where this check needs it.",
     "The study is nested too deeply.",
     "The value to compare with is not a SHA-256 digest.",
     "The list of signed elements is empty or broken.",
