@@ -1,4 +1,4 @@
-//! Finds libeddyplume.a, has it linked, and names it to tests/header.rs.
+//! Finds libeddyplume.a, has it linked, and names it to the tests that compile C.
 
 use std::env;
 use std::path::{Path, PathBuf};

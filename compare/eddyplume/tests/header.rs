@@ -1,8 +1,10 @@
 //! include/eddyplume.h as a C compiler takes it: each of its functions has the
 //! type that src/header.rs declares, and example 1 of 01 runs through it.
 
+mod cc;
+
 use std::fs;
-use std::path::{Path, PathBuf};
+use std::path::PathBuf;
 use std::process::Command;
 
 const RUST: &str = include_str!("../src/header.rs");
@@ -48,25 +50,11 @@ fn pointers() -> String {
         .collect()
 }
 
-/// Compiles tests/header.c with these pointers and links the archive: the
-/// program, or what the compiler says.
+/// Compiles tests/header.c with these pointers.
 fn compiled(name: &str, pointers: &str) -> Result<PathBuf, String> {
-    let folder = Path::new(env!("CARGO_TARGET_TMPDIR")).join(name);
-    let program = folder.join("header");
-    fs::create_dir_all(&folder).unwrap();
+    let folder = cc::folder(name);
     fs::write(folder.join("declared.h"), pointers).unwrap();
-    let cc = Command::new("cc")
-        .current_dir(env!("CARGO_MANIFEST_DIR"))
-        .args(["-std=c99", "-Wall", "-Wextra", "-Wpedantic", "-Werror", "-I../../include", "-I"])
-        .arg(&folder)
-        .args(["tests/header.c", env!("EDDYPLUME_ARCHIVE"), "-o"])
-        .arg(&program)
-        .output()
-        .expect("a C compiler is needed: `cc`");
-    if !cc.status.success() {
-        return Err(String::from_utf8_lossy(&cc.stderr).into_owned());
-    }
-    Ok(program)
+    cc::compiled("tests/header.c", &folder)
 }
 
 #[test]
