@@ -53,32 +53,75 @@ fn read_list(tags: &str) -> Option<Vec<u8>> {
     tags.map(|tags| bytes_of(&tags))
 }
 
-/// `compare files`: exit status 1 where the two disagree, otherwise 2 where a
-/// file cannot be opened.
+/// What becomes of a file.
+#[derive(Clone, Copy, PartialEq, Eq)]
+enum Outcome {
+    Agree,
+    Disagree,
+    Skipped,
+    NotOpened,
+}
+
+impl Outcome {
+    fn is_compared(self) -> bool {
+        matches!(self, Outcome::Agree | Outcome::Disagree)
+    }
+}
+
+/// `compare files`
 pub fn run(words: &[String]) -> Result<ExitCode, Stop> {
     let (asked, names) = Asked::read(words)?;
     if names.is_empty() {
         return Err(Stop::Usage("a file is needed".to_string()));
     }
-    let (mut agree, mut opened) = (true, true);
-    for name in &names {
-        println!("{name}");
-        match std::fs::read(name) {
-            Err(error) => {
-                println!("  not opened: {error}");
-                opened = false;
-            }
-            Ok(bytes) => match part10::read(&bytes) {
-                Err(why) => println!("  skipped: {why}"),
-                Ok(file) => agree &= compared(&file, &asked),
-            },
+    let outcomes: Vec<Outcome> = names.iter().map(|name| outcome(name, &asked)).collect();
+    println!("{}", summary(&names, &outcomes));
+    Ok(ExitCode::from(status(&outcomes)))
+}
+
+/// Prints what is to be said of a file.
+fn outcome(name: &str, asked: &Asked) -> Outcome {
+    println!("{name}");
+    let bytes = match std::fs::read(name) {
+        Ok(bytes) => bytes,
+        Err(error) => {
+            println!("  not opened: {error}");
+            return Outcome::NotOpened;
         }
+    };
+    match part10::read(&bytes) {
+        Err(why) => {
+            println!("  skipped: {why}");
+            Outcome::Skipped
+        }
+        Ok(file) if compared(&file, asked) => Outcome::Agree,
+        Ok(_) => Outcome::Disagree,
     }
-    Ok(ExitCode::from(match (agree, opened) {
-        (false, _) => 1,
-        (true, false) => 2,
-        (true, true) => 0,
-    }))
+}
+
+/// How many files were compared, and which were not.
+fn summary(names: &[String], outcomes: &[Outcome]) -> String {
+    let others: Vec<&str> = names
+        .iter()
+        .zip(outcomes)
+        .filter(|(_, outcome)| !outcome.is_compared())
+        .map(|(name, _)| name.as_str())
+        .collect();
+    let compared = names.len() - others.len();
+    let not = if others.is_empty() { String::new() } else { format!(", not: {}", others.join(", ")) };
+    format!("{compared} of {} compared{not}", names.len())
+}
+
+/// Exit status 1 where the two disagree, otherwise 2 where a file cannot be opened
+/// or none was compared.
+fn status(outcomes: &[Outcome]) -> u8 {
+    if outcomes.contains(&Outcome::Disagree) {
+        1
+    } else if outcomes.contains(&Outcome::NotOpened) || !outcomes.contains(&Outcome::Agree) {
+        2
+    } else {
+        0
+    }
 }
 
 /// Prints what a file's data set gives; whether both agree on all of it.
@@ -229,6 +272,23 @@ mod tests {
         assert_eq!(read_list("00080060,7FE00010"), Some(bytes_of(&[0x0008_0060, 0x7FE0_0010])));
         for not_understood in ["", "0008", "0008,0060", "00080060,", "(0008,0060)"] {
             assert_eq!(read_list(not_understood), None, "{not_understood}");
+        }
+    }
+
+    #[test]
+    fn what_the_files_end_in() {
+        use Outcome::{Agree, Disagree, NotOpened, Skipped};
+        for (outcomes, wanted, said) in [
+            (vec![Agree], 0, "1 of 1 compared"),
+            (vec![Agree, Skipped], 0, "1 of 2 compared, not: b"),
+            (vec![Skipped], 2, "0 of 1 compared, not: a"),
+            (vec![Skipped, Skipped], 2, "0 of 2 compared, not: a, b"),
+            (vec![Agree, NotOpened], 2, "1 of 2 compared, not: b"),
+            (vec![Skipped, NotOpened, Disagree], 1, "1 of 3 compared, not: a, b"),
+        ] {
+            let names = ["a", "b", "c"].map(str::to_string);
+            let summary = summary(&names[..outcomes.len()], &outcomes);
+            assert_eq!((status(&outcomes), summary.as_str()), (wanted, said));
         }
     }
 
