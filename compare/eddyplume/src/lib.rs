@@ -48,8 +48,7 @@ pub struct Checked {
     pub verdict: Verdict,
 }
 
-/// The value of a tag; the empty part at the end where it does not stand
-/// there.
+/// The value of a tag; where it is not found, no bytes (RULES 3.2).
 #[derive(Clone, Copy, Debug, PartialEq, Eq)]
 pub struct Found<'d> {
     pub answer: Answer,
@@ -81,7 +80,8 @@ pub fn list_check(list: &[u8], data: &[u8], expected: &[u8], work: &mut [u8]) ->
 }
 
 /// The stream of a signature in `data`, written to the start of `out`; `uid`
-/// is the data set's transfer syntax, `which` counts from 0, none means 0.
+/// is the data set's transfer syntax, `which` is as in RULES 8.1: "signatures are
+/// counted from 0. Where no number is given, 0 is taken."
 pub fn signature_stream(uid: &[u8], which: Option<u64>, data: &[u8], out: &mut [u8]) -> Answer {
     let mut answer = [0; 3];
     lent::signature_stream(uid, which, data, out, &mut answer);
@@ -101,7 +101,8 @@ pub fn signature_check(
     checked(answer, verdict)
 }
 
-/// The value of the top-level `tag` (group x 65,536 + element) in `data`.
+/// The value of the top-level `tag` in `data`; the tag is RULES 2.5's "number group
+/// times 65,536 plus element".
 pub fn lookup(data: &[u8], tag: u32) -> Found<'_> {
     let (mut answer, mut part) = ([0; 3], [0; 3]);
     lent::lookup(data, tag, &mut answer, &mut part);

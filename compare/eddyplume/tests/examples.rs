@@ -1,4 +1,4 @@
-//! Examples of 01 and a published digest through the wrapper.
+//! Examples of docs/RULES.md and a published digest through the wrapper.
 
 use eddyplume::{
     list_check, list_stream, lookup, sha256, signature_check, signature_stream, Answer, Running,

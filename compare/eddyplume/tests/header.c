@@ -1,4 +1,4 @@
-/* Example 1 of 01 through include/eddyplume.h; compiled and run by tests/header.rs. */
+/* RULES 15.1 through include/eddyplume.h; compiled and run by tests/header.rs. */
 #include <stdio.h>
 #include <string.h>
 #include "eddyplume.h"

@@ -1,5 +1,5 @@
 //! include/eddyplume.h as a C compiler takes it: each of its functions has the
-//! type that src/header.rs declares, and example 1 of 01 runs through it.
+//! type that src/header.rs declares, and RULES 15.1 runs through it.
 
 mod cc;
 

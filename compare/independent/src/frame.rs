@@ -1,12 +1,12 @@
-//! "The stream program": its input bytes to the bytes it prints.
+//! Section 11, "The stream program": its input bytes to the bytes it prints.
 
 use crate::list_mode;
 use crate::{Refusal, StreamAnswer};
 
-/// "Standard input, at most 65,536 bytes".
+/// 11.1: "Its input is a frame of at most 65,536 bytes".
 pub const MOST_INPUT: usize = 65_536;
 
-/// "It runs list mode with 65,536 bytes of output room."
+/// 11.2: "Its call is one of list mode; the output room is 65,536 bytes."
 pub const OUTPUT_ROOM: usize = 65_536;
 
 /// The program's answer and what it prints.
@@ -23,12 +23,13 @@ pub struct Printed {
 pub fn run(input: &[u8]) -> Printed {
     let answer = match parts(input) {
         Some((list, data)) => list_mode::stream(data, list, OUTPUT_ROOM),
-        // "Otherwise 24, before all else."
+        // 11.1: "Any other input gives 24, before every other number."
         None => StreamAnswer::from_result(Err(Refusal::plain(24))),
     };
-    // "It prints answer, position and length in decimal with single spaces"
+    // 11.3: "It prints number, position and length in decimal, with one space
+    // between"
     let mut text = format!("{} {} {}\n", answer.number, answer.position, answer.length).into_bytes();
-    // "then for answer 0 the stream in lower-case hex, 32 bytes a line"
+    // 11.3: "then, for number 0, the stream in hex, in lower case, 32 bytes a line"
     if let Some(stream) = &answer.stream {
         for line in stream.chunks(32) {
             for byte in line {
@@ -46,8 +47,9 @@ pub fn run(input: &[u8]) -> Printed {
     }
 }
 
-/// "version byte 1; four-byte big-endian length; list; four-byte big-endian
-/// length; data set; nothing after": the list and the data set.
+/// 11.1: "the byte 1 for the version; a length in bytes, itself four bytes with the
+/// high byte first, and a list of that length; a length likewise, and a data set of
+/// that length; and no byte more". Gives the list and the data set.
 fn parts(input: &[u8]) -> Option<(&[u8], &[u8])> {
     if input.len() > MOST_INPUT {
         return None;
@@ -61,7 +63,7 @@ fn parts(input: &[u8]) -> Option<(&[u8], &[u8])> {
     rest.is_empty().then_some((list, data))
 }
 
-/// A four-byte big-endian length, that many bytes, and the rest.
+/// A length of four bytes, the high byte first, that many bytes, and the rest.
 fn counted(bytes: &[u8]) -> Option<(&[u8], &[u8])> {
     if bytes.len() < 4 {
         return None;

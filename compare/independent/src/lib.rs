@@ -1,6 +1,7 @@
-//! An independent, literal implementation of the definition document, "01".
-//! Quotations in the comments are sentences of that document, as the change
-//! requests to it have them; "(a)" to "(l)" are the readings listed in README.md.
+//! An independent, literal implementation of the rules, docs/RULES.md. Quotations
+//! in the comments are from there, behind the number of the rule; two dots are
+//! what is left out. (a) to (l) are the readings listed in README.md, which also
+//! says from what this was written.
 
 #![forbid(unsafe_code)]
 
@@ -13,7 +14,7 @@ pub mod signature_mode;
 pub mod stream;
 pub mod tag_list;
 
-/// A number that is not 0, and its position. "A refusal has length 0".
+/// A number that is not 0, and its position. 1.6: "The length of a refusal is 0".
 #[derive(Clone, Copy, Debug, PartialEq, Eq)]
 pub struct Refusal {
     pub number: u32,
@@ -21,28 +22,28 @@ pub struct Refusal {
 }
 
 impl Refusal {
-    /// "Positions: 2 to 8 an offset in the data set; 11 to 15 an index into
-    /// the list from 0".
+    /// 9.2: "The position is, for 2 to 8, an offset in the data set; for 11 to 15
+    /// an index into the list, counted from 0".
     pub(crate) fn at(number: u32, position: usize) -> Refusal {
         Refusal { number, position }
     }
 
-    /// "others 0".
+    /// 9.2: "for every other number 0".
     pub(crate) fn plain(number: u32) -> Refusal {
         Refusal { number, position: 0 }
     }
 }
 
 /// The answer of a call for the stream.
-/// "An answer is a number, a position and a length. For 0 the position is 0
-/// and the first *length* bytes of the output are the stream".
+/// 9.1: "Every answer consists of number, position and length. With number 0 the
+/// position is 0." 7.3: "the answer's length is the stream's".
 #[derive(Clone, Debug, PartialEq, Eq)]
 pub struct StreamAnswer {
     pub number: u32,
     pub position: usize,
     pub length: usize,
-    /// The bytes written to the output; `None` for a refusal, which "touches
-    /// no output byte".
+    /// The bytes written to the output; `None` for a refusal. 7.3: "A refused call
+    /// changes no byte of the output and has length 0."
     pub stream: Option<Vec<u8>>,
 }
 
@@ -65,8 +66,7 @@ impl StreamAnswer {
     }
 }
 
-/// "A check answers 0 with "same" or "differs" [..] A refused check says
-/// neither."
+/// What a check says. 7.4: "A check that is refused says neither of the two."
 #[derive(Clone, Copy, Debug, PartialEq, Eq)]
 pub enum Verdict {
     Neither,
@@ -80,7 +80,7 @@ pub struct CheckAnswer {
     pub number: u32,
     pub position: usize,
     pub length: usize,
-    /// "its work buffer then holds the stream as an output does".
+    /// 7.4: "7.3 holds of its work buffer in place of an output".
     pub stream: Option<Vec<u8>>,
     pub verdict: Verdict,
 }

@@ -1,4 +1,5 @@
-//! List mode: "the MAC stream for a bare tag list".
+//! List mode. 1.1: the build "forms the MAC stream, for no more than a list of
+//! tags".
 
 use crate::reading::{check_size, read_checked_size, DataSet, Element, Tag};
 use crate::stream::{holds_unknown, Writer};
@@ -15,8 +16,8 @@ pub fn check(data: &[u8], list: &[u8], expected: &[u8], room: usize) -> CheckAns
     CheckAnswer::from_result(run(data, list, Some(expected), room), expected)
 }
 
-/// "List mode: 1, 10, 11 over the whole list, 12 over the whole list, 2 to 8,
-/// then tag by tag 13, 14, 15; then 9, 16."
+/// 9.4: "The order of list mode: 1; 10; 11 over the whole list; 12 over the whole
+/// list; 2 to 8; then for each tag in turn 13, 14, 15; then 9, 16".
 fn run(
     data: &[u8],
     list: &[u8],
@@ -31,23 +32,24 @@ fn run(
     write_all(&listed, room) // 16
 }
 
-/// The listed elements in list order; "tag by tag 13, 14, 15".
+/// 5.5: "The listed elements come in the order of the list."; 9.4: "for each tag
+/// in turn 13, 14, 15".
 pub(crate) fn listed_elements<'t, 'd>(
     data_set: &'t DataSet<'d>,
     tags: &[Tag],
 ) -> Result<Vec<&'t Element<'d>>, Refusal> {
     let mut listed = Vec::new();
     for (index, &tag) in tags.iter().enumerate() {
-        // "13 | listed tag absent at the top level"
+        // 9.3 row 13: "a listed tag does not stand at the top level"
         let element = match data_set.element(tag) {
             Some(element) => element,
             None => return Err(Refusal::at(13, index)),
         };
-        // "14 | listed element is UN"
+        // 9.3 row 14: "a listed element is a UN"
         if element.is_unknown() {
             return Err(Refusal::at(14, index));
         }
-        // "15 | listed sequence holds UN"
+        // 9.3 row 15: "a listed sequence has a UN in it"
         if element.is_sequence() && holds_unknown(element) {
             return Err(Refusal::at(15, index));
         }
@@ -56,7 +58,7 @@ pub(crate) fn listed_elements<'t, 'd>(
     Ok(listed)
 }
 
-/// "9 | expected digest not 32 bytes (check only)".
+/// 9.3 row 9: "in a check only: the expected digest is not 32 bytes long".
 pub(crate) fn check_expected(expected: Option<&[u8]>) -> Result<(), Refusal> {
     match expected {
         Some(expected) if expected.len() != 32 => Err(Refusal::plain(9)),
@@ -70,7 +72,7 @@ pub(crate) fn write_all(elements: &[&Element], room: usize) -> Result<Vec<u8>, R
     for element in elements {
         writer.write(element);
     }
-    // "16 | output shorter than the stream"
+    // 9.3 row 16: "the output room is less than the stream's length"
     if room < writer.length() {
         return Err(Refusal::plain(16));
     }

@@ -1,22 +1,22 @@
-//! "Besides, lookup hands back the part of the lent data set that is the
-//! value of a top-level tag".
+//! Section 3, "The lookup". 3.1: "The lookup returns the value of a tag at the top
+//! level, as a part of the data set that it was lent".
 
 use crate::reading::{read, Tag};
 
-/// The reading's number and position, the part, and whether the tag stands
-/// there.
+/// The reading's number and position, the part, and whether the tag was found.
 #[derive(Clone, Debug, PartialEq, Eq)]
 pub struct Lookup<'d> {
-    /// "the reading's number and position (0, or 1 to 8)".
+    /// 3.3: "the reading's number (0 to 8) and position".
     pub number: u32,
     pub position: usize,
     /// Length of the part.
     pub length: usize,
     /// Where the part starts in the data.
     pub offset: usize,
-    /// The part itself, "without a closing sequence delimiter".
+    /// The part itself. 3.1: "a sequence delimiter that ends the value is not in
+    /// it".
     pub value: &'d [u8],
-    /// "a yes or no: whether the tag stands there".
+    /// 3.3: "a yes or no that says if the tag was found".
     pub stands: bool,
 }
 
@@ -26,8 +26,8 @@ pub fn lookup(data: &[u8], tag: Tag) -> Lookup<'_> {
     let element = reading.data_set.as_ref().and_then(|data_set| data_set.element(tag));
     let (offset, value, stands) = match element {
         Some(element) => (element.value_offset, element.value, true),
-        // "Where the set is refused or the tag absent it is the empty part at
-        // the end" (k).
+        // 3.2: "If the data set is refused, or has no such tag at the top level,
+        // the part has no bytes and lies at the data set's end." (k)
         None => (data.len(), &data[data.len()..], false),
     };
     Lookup {

@@ -1,17 +1,18 @@
-//! "Reading the data set": the tree of elements, or the first fault.
+//! Section 2, "The data set (PS3.5)": the tree of elements, or the leftmost fault.
 
 use crate::Refusal;
 
-/// "At most 1,048,576 bytes; it may be empty."
+/// 2.1: "A data set has at most 1,048,576 bytes. It may have none."
 pub const MOST_BYTES: usize = 1_048_576;
 
-/// "a sequence at level 16 is refused with 8, even an empty one".
+/// 2.3: "A sequence may stand at levels 0 to 15; one at level 16 gives 8, with or
+/// without items."
 pub const REFUSED_LEVEL: usize = 16;
 
-/// "FFFFFFFF (undefined)".
+/// 2.8: "The length FFFFFFFF is undefined."
 const UNDEFINED: u32 = 0xFFFF_FFFF;
 
-/// A tag "compares as group x 65,536 + element".
+/// 2.5: "Tags are compared as the number group times 65,536 plus element."
 #[derive(Clone, Copy, Debug, PartialEq, Eq, PartialOrd, Ord)]
 pub struct Tag(pub u32);
 
@@ -20,7 +21,8 @@ impl Tag {
         Tag(group as u32 * 65_536 + element as u32)
     }
 
-    /// "group and element number (two bytes each, low byte first)".
+    /// 2.4: "A tag is a group number and an element number, two bytes each. In
+    /// group, element number and length the low byte comes first."
     pub fn from_bytes(bytes: [u8; 4]) -> Tag {
         Tag::new(
             u16::from_le_bytes([bytes[0], bytes[1]]),
@@ -41,13 +43,14 @@ pub const ITEM: Tag = Tag::new(0xFFFE, 0xE000);
 pub const ITEM_DELIMITATION: Tag = Tag::new(0xFFFE, 0xE00D);
 pub const SEQUENCE_DELIMITATION: Tag = Tag::new(0xFFFE, 0xE0DD);
 
-/// "Short, two-byte length".
+/// 2.6: "Short form, with a length of two bytes".
 pub const SHORT_FORM: [&[u8; 2]; 21] = [
     b"AE", b"AS", b"AT", b"CS", b"DA", b"DS", b"DT", b"FL", b"FD", b"IS", b"LO", b"LT", b"PN",
     b"SH", b"SL", b"SS", b"ST", b"TM", b"UI", b"UL", b"US",
 ];
 
-/// "Long, two reserved zero bytes, then a four-byte length".
+/// 2.7: "Long form, with two reserved bytes, both zero, and then a length of four
+/// bytes".
 pub const LONG_FORM: [&[u8; 2]; 6] = [b"OB", b"OW", b"OF", b"SQ", b"UT", b"UN"];
 
 /// One element of a data set, lent from the data.
@@ -62,7 +65,7 @@ pub struct Element<'d> {
     /// All bytes, from the tag to the end of the value; where the length is
     /// undefined, the closing sequence delimiter included.
     pub bytes: &'d [u8],
-    /// The value "without a closing sequence delimiter".
+    /// The value. 3.1: "a sequence delimiter that ends the value is not in it".
     pub value: &'d [u8],
     pub content: Content<'d>,
 }
@@ -87,7 +90,7 @@ pub enum Content<'d> {
     Fragments(Vec<&'d [u8]>),
 }
 
-/// "an item is a data set": elements with strictly rising tags.
+/// 2.2: "each item is again a data set". Elements with strictly rising tags.
 #[derive(Clone, Debug, Default, PartialEq, Eq)]
 pub struct DataSet<'d> {
     pub elements: Vec<Element<'d>>,
@@ -126,7 +129,7 @@ pub fn read(data: &[u8]) -> Reading<'_> {
     }
 }
 
-/// "1 | data set over the size".
+/// 9.3 row 1: "the data set is larger than 2.1 allows".
 pub(crate) fn check_size(data: &[u8]) -> Result<(), Refusal> {
     if data.len() > MOST_BYTES {
         return Err(Refusal::plain(1));
@@ -134,7 +137,8 @@ pub(crate) fn check_size(data: &[u8]) -> Result<(), Refusal> {
     Ok(())
 }
 
-/// 2 to 8. "The top is level 0"; its extent is the data, a defined one.
+/// 2 to 8. 2.3: "The elements of the top data set are at level 0"; their extent
+/// is the data, a defined one.
 pub(crate) fn read_checked_size(data: &[u8]) -> Result<DataSet<'_>, Refusal> {
     let (data_set, _) = read_data_set(data, 0, Extent { end: data.len(), closed: false }, 0)?;
     Ok(data_set)
@@ -194,19 +198,20 @@ fn read_data_set(
     let mut elements: Vec<Element> = Vec::new();
     let mut at = start;
     while !extent.is_end(at) {
-        // "fewer than 8 bytes left in the enclosing extent, 2"
+        // 2.11a: "fewer than 8 bytes are left in the extent"
         if extent.left(at) < 8 {
             return Err(Refusal::at(2, at));
         }
-        // "closed by (FFFE,E00D) of length 0 in an element's place, tested
-        // right after the 8-byte test"
+        // 2.14: "(FFFE,E00D) with length 0, the item delimiter, ends an item of
+        // undefined length. It stands in the place of an element and is tested
+        // for right after 2.11a."
         if extent.closed
             && tag_at(data, at) == ITEM_DELIMITATION
             && four_byte_length_at(data, at + 4) == 0
         {
             return Ok((DataSet { elements }, at + 8));
         }
-        // "the tag before it in the same data set" (f)
+        // 2.11c: "the element before it in the same data set" (f)
         let before = elements.last().map(|element| element.tag);
         let element = read_element(data, at, extent, before, level)?;
         at += element.bytes.len();
@@ -215,7 +220,7 @@ fn read_data_set(
     Ok((DataSet { elements }, at))
 }
 
-/// "Checks at one element, in order"; the 8 bytes are there (2).
+/// 2.11: "These are the checks at one element, in their order"; 2.11a is done.
 fn read_element(
     data: &[u8],
     at: usize,
@@ -224,11 +229,12 @@ fn read_element(
     level: usize,
 ) -> Result<Element<'_>, Refusal> {
     let tag = tag_at(data, at);
-    // "group FFFE, 3"
+    // 2.11b: "the group is FFFE"
     if tag.group() == 0xFFFE {
         return Err(Refusal::at(3, at));
     }
-    // "tag not above the tag before it in the same data set, 4"
+    // 2.11c: "the tag is not above that of the element before it in the same
+    // data set"
     if before.is_some_and(|before| tag <= before) {
         return Err(Refusal::at(4, at));
     }
@@ -258,18 +264,18 @@ fn read_length(
 ) -> Result<(u32, usize), Refusal> {
     let short = SHORT_FORM.contains(&&vr);
     let long = LONG_FORM.contains(&&vr);
-    // "VR in neither list, 5"
+    // 2.11d: "the VR is neither in 2.6 nor in 2.7"
     if !short && !long {
         return Err(Refusal::at(5, at));
     }
     if short {
         return Ok((two_byte_length_at(data, at + 6), at + 8));
     }
-    // "long form with fewer than 12 bytes left, 2"
+    // 2.11e: "the form is long, and fewer than 12 bytes are left"
     if extent.left(at) < 12 {
         return Err(Refusal::at(2, at));
     }
-    // "reserved not zero, 6"
+    // 2.11f: "the reserved bytes are not zero"
     if data[at + 6] != 0 || data[at + 7] != 0 {
         return Err(Refusal::at(6, at));
     }
@@ -285,17 +291,17 @@ fn check_length(
     left: usize,
     level: usize,
 ) -> Result<(), Refusal> {
-    // "length odd, or FFFFFFFF on a VR other than SQ and OB, 7";
-    // "FFFFFFFF (undefined) is good for SQ and OB only"
+    // 2.11g: "the length is undefined and the VR neither SQ nor OB, or the length
+    // is defined and odd". FFFFFFFF on another VR is odd as a number.
     let undefined = length == UNDEFINED && (vr == *b"SQ" || vr == *b"OB");
     if !undefined && length % 2 == 1 {
         return Err(Refusal::at(7, at));
     }
-    // "SQ at level 16, 8"
+    // 2.11h: "it is an SQ at level 16"
     if vr == *b"SQ" && level == REFUSED_LEVEL {
         return Err(Refusal::at(8, at));
     }
-    // "value past the extent, 2"
+    // 2.11i: "the length is defined, and the value ends past the extent"
     if !undefined && length as usize > left {
         return Err(Refusal::at(2, at));
     }
@@ -315,11 +321,12 @@ fn read_content(
         let (items, value_end, end) = read_items(data, start, inside, level)?;
         Ok((Content::Items(items), value_end, end))
     } else if inside.closed {
-        // Of the other VRs only OB may be undefined (7).
+        // Of the other VRs only OB may be undefined (2.11g).
         let (fragments, value_end, end) = read_fragments(data, start, inside)?;
         Ok((Content::Fragments(fragments), value_end, end))
     } else {
-        // "Their bytes aren't looked into, nor is the value of UN."
+        // 2.19: "Nothing inside a fragment, or inside the value of a UN, is
+        // examined."
         Ok((Content::Bytes, inside.end, inside.end))
     }
 }
@@ -335,18 +342,20 @@ enum Header {
 /// The first checks of an item's or a fragment's header (c): 8 bytes (2),
 /// closing delimiter, other tag (3).
 fn read_item_header(data: &[u8], at: usize, extent: Extent) -> Result<Header, Refusal> {
-    // "each header takes 8 bytes (fewer: 2)"
+    // 2.12: "Where fewer than 8 are left, it gives 2."
     if extent.left(at) < 8 {
         return Err(Refusal::at(2, at));
     }
     let tag = tag_at(data, at);
     let length = four_byte_length_at(data, at + 4);
-    // "closed by (FFFE,E0DD) of length 0"
+    // 2.15: "(FFFE,E0DD) with length 0, the sequence delimiter, ends a sequence
+    // of undefined length."
     if extent.closed && tag == SEQUENCE_DELIMITATION && length == 0 {
         return Ok(Header::Closing);
     }
-    // "Another tag, a delimiter of other length, or a delimiter where a
-    // defined length rules, is 3."
+    // 2.16: "Where an item is due, every tag but an item's or the due delimiter's
+    // gives 3. There .. a delimiter whose length is not 0 gives 3, and so does a
+    // delimiter where the item or sequence that it would end has a defined length."
     if tag != ITEM {
         return Err(Refusal::at(3, at));
     }
@@ -356,11 +365,11 @@ fn read_item_header(data: &[u8], at: usize, extent: Extent) -> Result<Header, Re
 /// The last checks of an item's or a fragment's header with a defined
 /// length (c): odd (7), past the extent (2). Gives the end of its bytes.
 fn check_item_length(at: usize, length: u32, extent: Extent) -> Result<usize, Refusal> {
-    // "A defined item length is even (else 7)"
+    // 2.13: "The defined length of an item is even; an odd one gives 7."
     if length % 2 == 1 {
         return Err(Refusal::at(7, at));
     }
-    // "and inside the extent (else 2)"
+    // 2.13: "The item ends inside the extent; one that does not gives 2."
     if length as usize > extent.left(at + 8) {
         return Err(Refusal::at(2, at));
     }
@@ -386,7 +395,7 @@ fn read_items(
             check_item_length(at, length, extent)?;
         }
         let inside = extent.inside(at + 8, length);
-        // "elements in the items of a level n sequence are at level n+1"
+        // 2.3: "those in the items of a sequence at level n are at level n + 1"
         let (item, end) = read_data_set(data, at + 8, inside, level + 1)?;
         items.push(item);
         at = end;
@@ -394,8 +403,10 @@ fn read_items(
     Ok((items, at, at))
 }
 
-/// "OB of undefined length holds fragments: items of defined even length
-/// (undefined or odd: 7), perhaps none, closed by (FFFE,E0DD) of length 0".
+/// 2.17: "The value of an OB of undefined length is a row of fragments, maybe an
+/// empty one: items whose length is defined and even. The sequence delimiter with
+/// length 0 ends it." 2.18: "For the headers of fragments 2 and 3 are given as in a
+/// sequence."
 fn read_fragments(
     data: &[u8],
     start: usize,
@@ -408,7 +419,8 @@ fn read_fragments(
             Header::Closing => return Ok((fragments, at, at + 8)),
             Header::Item { length } => length,
         };
-        // FFFFFFFF is an odd number: "undefined or odd: 7".
+        // 2.18: "A fragment whose length is undefined or odd gives 7."; FFFFFFFF
+        // is an odd number.
         let end = check_item_length(at, length, extent)?;
         fragments.push(&data[at + 8..end]);
         at = end;

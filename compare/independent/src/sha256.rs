@@ -1,6 +1,6 @@
-//! "The digest": SHA-256 as in FIPS 180-4, and the running digest.
+//! Section 10, "The digest (FIPS 180-4)": SHA-256, and the running digest.
 
-/// "the 64 round constants" (FIPS 180-4, 4.2.2).
+/// 10.1: "FIPS 180-4's 64 constants for the rounds" (FIPS 180-4, 4.2.2).
 pub const ROUND_CONSTANTS: [u32; 64] = [
     0x428a2f98, 0x71374491, 0xb5c0fbcf, 0xe9b5dba5, 0x3956c25b, 0x59f111f1, 0x923f82a4, 0xab1c5ed5,
     0xd807aa98, 0x12835b01, 0x243185be, 0x550c7dc3, 0x72be5d74, 0x80deb1fe, 0x9bdc06a7, 0xc19bf174,
@@ -12,15 +12,16 @@ pub const ROUND_CONSTANTS: [u32; 64] = [
     0x748f82ee, 0x78a5636f, 0x84c87814, 0x8cc70208, 0x90befffa, 0xa4506ceb, 0xbef9a3f7, 0xc67178f2,
 ];
 
-/// "eight start words" (FIPS 180-4, 5.3.3).
+/// 10.1: "its eight words to start with" (FIPS 180-4, 5.3.3).
 pub const START_WORDS: [u32; 8] = [
     0x6a09e667, 0xbb67ae85, 0x3c6ef372, 0xa54ff53a, 0x510e527f, 0x9b05688c, 0x1f83d9ab, 0x5be0cd19,
 ];
 
-/// "total past 2^61 - 1 bytes" is 25.
+/// 9.3 row 25: "its total is past 2^61 - 1 bytes".
 pub const MOST_TOTAL: u64 = (1 << 61) - 1;
 
-/// "The running digest is eight words, at most 63 waiting bytes and a total."
+/// 10.2: "A running digest is eight words, at most 63 bytes that wait, and the total
+/// of the bytes fed."
 #[derive(Clone, Copy, Debug, PartialEq, Eq)]
 pub struct RunningDigest {
     pub words: [u32; 8],
@@ -63,21 +64,23 @@ impl RunningDigest {
         RunningDigest { words: START_WORDS, waiting: [0; 64], count: 0, total: 0 }
     }
 
-    /// "It is possible when the waiting count equals the total modulo 64 and
-    /// the room past the waiting bytes is zero; any eight words will do".
+    /// 10.3: "It is possible when the count of waiting bytes is what the total
+    /// leaves modulo 64, and the rest of the room for them is zero. The words may
+    /// be any eight".
     pub fn possible(&self) -> bool {
         self.count as u64 == self.total % 64
             && self.waiting[self.count..].iter().all(|&byte| byte == 0)
     }
 
-    /// "25 | running digest not a possible one, or total past 2^61 - 1 bytes
-    /// (also after the feeding asked for)"; `more` is the feeding asked for.
+    /// 9.3 row 25: "a running digest is not possible (10.3), or its total is past
+    /// 2^61 - 1 bytes, or would be after the feeding that is asked for"; `more` is
+    /// how many bytes that feeding has.
     fn refused(&self, more: usize) -> bool {
         !self.possible() || u128::from(self.total) + more as u128 > u128::from(MOST_TOTAL)
     }
 
-    /// "each feeding takes a running digest and gives back the next; a
-    /// refused one gives back what it got".
+    /// 10.4: "A feeding is one step: from a running digest it makes the next and
+    /// returns it. Refused, it returns the old one unchanged."
     pub fn feed(self, bytes: &[u8]) -> Fed {
         if self.refused(bytes.len()) {
             return Fed { number: 25, position: 0, length: 0, next: self };
@@ -96,8 +99,8 @@ impl RunningDigest {
         Fed { number: 0, position: 0, length: 0, next }
     }
 
-    /// Pads and gives the digest (FIPS 180-4, 5.1.1 and 6.2.2). "Finishing an
-    /// impossible one answers 25 with 32 zero bytes."
+    /// Pads and gives the digest (FIPS 180-4, 5.1.1 and 6.2.2). 10.5: "Finishing one
+    /// that is not possible gives 25 and, for a digest, 32 bytes of zero."
     pub fn finish(self) -> Finished {
         if self.refused(0) {
             return Finished { number: 25, position: 0, length: 0, digest: [0; 32] };
@@ -126,8 +129,8 @@ pub fn sha256(bytes: &[u8]) -> [u8; 32] {
     RunningDigest::start().feed(bytes).next.finish().digest
 }
 
-/// The message schedule of one block (FIPS 180-4, 6.2.2, step 1); "sums are
-/// taken modulo two to the 32".
+/// The message schedule of one block (FIPS 180-4, 6.2.2, step 1); 10.1: "Additions
+/// are modulo 2^32."
 fn message_schedule(block: &[u8; 64]) -> [u32; 64] {
     let mut w = [0u32; 64];
     for (t, bytes) in block.chunks_exact(4).enumerate() {
@@ -142,7 +145,7 @@ fn message_schedule(block: &[u8; 64]) -> [u32; 64] {
     w
 }
 
-/// One block (FIPS 180-4, 6.2.2); "sums are taken modulo two to the 32".
+/// One block (FIPS 180-4, 6.2.2); 10.1: "Additions are modulo 2^32."
 fn compress(words: [u32; 8], block: &[u8; 64]) -> [u32; 8] {
     let w = message_schedule(block);
     let [mut a, mut b, mut c, mut d, mut e, mut f, mut g, mut h] = words;

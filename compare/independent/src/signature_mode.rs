@@ -1,4 +1,5 @@
-//! Signature mode: the MAC stream "for one signature in the data set".
+//! Section 8, "Signature mode". 1.1: the build "forms the MAC stream, .. for one of
+//! the signatures in the data set".
 
 use crate::list_mode::{check_expected, listed_elements, write_all};
 use crate::reading::{check_size, read_checked_size, Content, DataSet, Element, Tag};
@@ -37,7 +38,8 @@ pub fn check(
     CheckAnswer::from_result(run(data, uid, which, Some(expected), room), expected)
 }
 
-/// "Signature mode: 1, 2 to 8, 18 to 23, 10, 11, 12, and on as before."
+/// 9.5: "The order of signature mode: 1; 2 to 8; 18 to 23; 10; 11; 12; then for
+/// each tag in turn 13, 14, 15; then 9, 16".
 fn run(
     data: &[u8],
     uid: &[u8],
@@ -56,7 +58,8 @@ fn run(
     let tags = tags_of(list)?; // 10, 11, 12
     let mut elements = listed_elements(&data_set, &tags)?; // 13, 14, 15
     check_expected(expected)?; // 9
-    // "After the listed elements come the signature item's own"
+    // 8.4: "After the listed elements the stream goes on with the signature item's
+    // own elements, by section 5."
     elements.extend(signature_elements(signature));
     write_all(&elements, room) // 16
 }
@@ -69,8 +72,9 @@ fn items_of<'t, 'd>(data_set: &'t DataSet<'d>, tag: Tag) -> Option<&'t [DataSet<
     }
 }
 
-/// "18 | no (FFFA,FFFA) of VR SQ, or no such item"; "a signature number,
-/// counted from 0, or none; none means 0".
+/// 9.3 row 18: "there is no (FFFA,FFFA) with VR SQ, or it has no item with the
+/// signature's number"; 8.1: "signatures are counted from 0. Where no number is
+/// given, 0 is taken."
 fn signature_item<'t, 'd>(
     data_set: &'t DataSet<'d>,
     which: Option<usize>,
@@ -80,15 +84,17 @@ fn signature_item<'t, 'd>(
         .ok_or(Refusal::plain(18))
 }
 
-/// An item's "(0400,0005) as US of length 2", as its two bytes (j).
+/// 9.3 rows 19 and 20: an item's "(0400,0005) with VR US and length 2", as its two
+/// bytes (j).
 fn mac_id_number<'d>(item: &DataSet<'d>) -> Option<&'d [u8]> {
     let element = item.element(MAC_ID_NUMBER)?;
     (element.vr == *b"US" && element.value.len() == 2).then_some(element.value)
 }
 
-/// "20 | no (4FFE,0001) of VR SQ with an item of that number, as US of
-/// length 2"; "the first item of (4FFE,0001) with the same MAC ID Number".
-/// Items without such a US are passed over (j).
+/// 9.3 row 20: "there is no (4FFE,0001) with VR SQ, or none of its items has the
+/// signature item's number in a (0400,0005) with VR US and length 2"; 8.2: "The
+/// parameters item is the first in (4FFE,0001) whose MAC ID Number, (0400,0005),
+/// equals the signature item's." Items without such a US are passed over (j).
 fn parameters_item<'t, 'd>(
     data_set: &'t DataSet<'d>,
     number: &[u8],
@@ -98,8 +104,8 @@ fn parameters_item<'t, 'd>(
         .ok_or(Refusal::plain(20))
 }
 
-/// "21 | (0400,0010) absent, not UI, empty, or, less one trailing NUL if it
-/// ends in one, unequal to the caller's UID as given or equal to
+/// 9.3 row 21: "(0400,0010) is absent, is not UI or is empty; or its value, less
+/// one NUL where it ends in one, is not the caller's UID as it was given, or is
 /// 1.2.840.10008.1.2 or 1.2.840.10008.1.2.2".
 fn check_transfer_syntax(parameters: &DataSet, uid: &[u8]) -> Result<(), Refusal> {
     let refused = Err(Refusal::plain(21));
@@ -117,8 +123,8 @@ fn check_transfer_syntax(parameters: &DataSet, uid: &[u8]) -> Result<(), Refusal
     Ok(())
 }
 
-/// "22 | (0400,0015) absent, not CS, or not SHA256 with trailing spaces
-/// ignored".
+/// 9.3 row 22: "(0400,0015) is absent, is not CS, or is not SHA256, spaces at its
+/// end aside".
 fn check_algorithm(parameters: &DataSet) -> Result<(), Refusal> {
     let refused = Err(Refusal::plain(22));
     let element = match parameters.element(MAC_ALGORITHM) {
@@ -138,8 +144,8 @@ fn check_algorithm(parameters: &DataSet) -> Result<(), Refusal> {
     Ok(())
 }
 
-/// "The list is this parameters item's (0400,0020)"; "23 | (0400,0020) absent
-/// or not AT".
+/// 8.3: "The list is the value of (0400,0020) of the parameters item."; 9.3 row 23:
+/// "(0400,0020) is absent or is not AT".
 fn signed_list<'d>(parameters: &DataSet<'d>) -> Result<&'d [u8], Refusal> {
     match parameters.element(DATA_ELEMENTS_SIGNED) {
         Some(element) if element.vr == *b"AT" => Ok(element.value),
@@ -147,10 +153,10 @@ fn signed_list<'d>(parameters: &DataSet<'d>) -> Result<&'d [u8], Refusal> {
     }
 }
 
-/// "the signature item's own, by the same rules, without (0400,0115),
-/// (0400,0120), (0400,0305), (0400,0310), barred tags, UN elements and
-/// sequences with UN at any depth; the four named tags are left out at the
-/// item's own level only".
+/// 8.4: "Left out are (0400,0115), (0400,0120), (0400,0305) and (0400,0310), barred
+/// elements, UN elements, and sequences with a UN in them, however deep."; 8.5: "The
+/// four tags named in 8.4 are left out only among the signature item's own
+/// elements, not deeper."
 fn signature_elements<'t, 'd>(
     signature: &'t DataSet<'d>,
 ) -> impl Iterator<Item = &'t Element<'d>> {

@@ -1,16 +1,17 @@
-//! "The stream": the signed stream of an element.
+//! Section 5, "The stream (C.12.1.1.3)": the stream of an element.
 
 use crate::reading::{Content, DataSet, Element};
 use crate::tag_list::is_barred;
 
-/// An item's "four tag bytes".
+/// 5.2: "the four bytes of the item's tag".
 const ITEM_TAG: [u8; 4] = [0xFE, 0xFF, 0x00, 0xE0];
 
-/// "then FE FF DD E0, present in the input or not".
+/// 5.2: "and finally FE FF DD E0, whether the data set has a delimiter there or
+/// not".
 const SEQUENCE_DELIMITATION_TAG: [u8; 4] = [0xFE, 0xFF, 0xDD, 0xE0];
 
-/// "sequence with a UN element at any depth, even inside a barred element";
-/// a UN counts even where it is itself barred (i).
+/// 4.5: "a UN in it, however deep, inside a barred element included". A UN counts
+/// even where it is itself barred, and all this is so for 8.4 too (i).
 pub fn holds_unknown(element: &Element) -> bool {
     match &element.content {
         Content::Items(items) => items
@@ -35,11 +36,11 @@ impl Writer {
     /// Writes one element by the rules of the stream.
     pub(crate) fn write(&mut self, element: &Element) {
         match &element.content {
-            // "An element other than SQ and undefined OB: all its bytes, the
-            // length included."
+            // 5.1: "An element that is neither an SQ nor an OB of undefined length
+            // gives all its bytes, also those of its length."
             Content::Bytes => self.stream.extend_from_slice(element.bytes),
-            // "SQ: tag, VR, reserved; then for each item its four tag bytes
-            // and its elements by these rules; then FE FF DD E0"
+            // 5.2: "An SQ gives its tag, its VR and its reserved bytes; then, item
+            // by item, .. and finally FE FF DD E0"
             Content::Items(items) => {
                 self.stream.extend_from_slice(&element.bytes[..8]);
                 for item in items {
@@ -47,7 +48,8 @@ impl Writer {
                 }
                 self.stream.extend_from_slice(&SEQUENCE_DELIMITATION_TAG);
             }
-            // "Undefined OB: likewise, with fragments' raw bytes."
+            // 5.3: "An OB of undefined length gives the same, with fragments for
+            // items and the unchanged bytes of each for what elements give."
             Content::Fragments(fragments) => {
                 self.stream.extend_from_slice(&element.bytes[..8]);
                 for fragment in fragments {
@@ -59,11 +61,13 @@ impl Writer {
         }
     }
 
-    /// "for each item its four tag bytes and its elements by these rules".
+    /// 5.2: "item by item, the four bytes of the item's tag and what the item's
+    /// elements give by these same rules".
     fn write_item(&mut self, item: &DataSet) {
         self.stream.extend_from_slice(&ITEM_TAG);
         for element in &item.elements {
-            // "Barred elements inside a sequence are left out at every depth."
+            // 5.4: "A barred element in a sequence gives nothing, however deep it
+            // stands."
             if is_barred(element.tag) {
                 continue;
             }

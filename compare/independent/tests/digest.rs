@@ -93,7 +93,7 @@ fn number_25() {
     refused(RunningDigest { total: 1 << 61, ..start });
     refused(RunningDigest { total: u64::MAX - 63, ..start });
 
-    // any eight words will do
+    // 10.3: "The words may be any eight"
     assert_eq!(RunningDigest { words: [9; 8], ..start }.feed(b"x").number, 0);
 
     // 2^61 - 1 bytes serve, one more does not

@@ -1,4 +1,4 @@
-//! The examples 1 to 11 of 01.
+//! The examples 15.1 to 15.11 of docs/RULES.md.
 
 mod common;
 use common::*;

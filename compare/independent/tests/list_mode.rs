@@ -21,7 +21,7 @@ fn numbers_13_and_14() {
     assert_eq!(said(&data, &list(&[0x0008_0060, 0x0010_0010])), GOOD);
     assert_eq!(said(&data, &list(&[0x0008_0060, 0x0009_0010, 0x0010_0011])), (14, 1));
     assert_eq!(said(&data, &list(&[0x0008_0060, 0x0009_0009, 0x0009_0010])), (13, 1));
-    // A listed tag is not found inside an item.
+    // 16.5: "only the top level counts"
     assert_eq!(said(&long(SQ, "SQ", &item(&S)), &list(&[0x0008_0100])), (13, 0));
 }
 
@@ -38,7 +38,7 @@ fn number_15() {
         assert_eq!(said(&data, &list(&[SQ])), (15, 0));
         assert_eq!(said(&join(&[&A, &data]), &list(&[0x0008_0060])), GOOD);
     }
-    // UN's value and fragments are not looked into.
+    // 2.19: "Nothing inside a fragment .. is examined."
     let closed = open(PIXELS, "OB", &item(&unknown()));
     assert_eq!(said(&closed, &list(&[PIXELS])), GOOD);
 }

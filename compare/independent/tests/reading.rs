@@ -83,10 +83,11 @@ fn number_3() {
     assert_eq!(fault(&short(0xFFFF_0001, "CS", &[])), GOOD);
     // 3 before 4
     assert_eq!(fault(&join(&[&short(0xFFFF_0001, "CS", &[]), &ITEM_END])), (3, 8));
-    // a delimiter where a defined length rules
+    // 2.16: "a delimiter where the item or sequence that it would end has a
+    // defined length"
     assert_eq!(fault(&long(SQ, "SQ", &join(&[&item(&S), &SEQUENCE_END]))), (3, 30));
     assert_eq!(fault(&long(SQ, "SQ", &item(&join(&[&S, &ITEM_END])))), (3, 30));
-    // a delimiter of other length
+    // 2.16: "a delimiter whose length is not 0"
     let mut data = open(SQ, "SQ", &open_item(&S));
     assert_eq!(fault(&data), GOOD);
     data[34] = 2;
@@ -171,7 +172,7 @@ fn number_7() {
     assert_eq!(fault(&long(SQ, "SQ", &item_header(0))), GOOD);
     assert_eq!(fault(&long(SQ, "SQ", &item_header(1))), (7, 12));
     assert_eq!(fault(&open(SQ, "SQ", &open_item(&[]))), GOOD);
-    // fragments: undefined or odd
+    // 2.18: "A fragment whose length is undefined or odd"
     assert_eq!(fault(&open(PIXELS, "OB", &item_header(0))), GOOD);
     assert_eq!(fault(&open(PIXELS, "OB", &item_header(1))), (7, 12));
     assert_eq!(fault(&open(PIXELS, "OB", &item_header(UNDEFINED))), (7, 12));
@@ -194,7 +195,7 @@ fn number_8() {
     assert_eq!(fault(&wrap(open(PIXELS, "OB", &item(&S)))), GOOD);
     assert_eq!(fault(&wrap(long(SQ, "UN", &nest(1)))), GOOD);
     assert_eq!(fault(&wrap(open(SQ, "SQ", &[]))), (8, 320));
-    // (e) 8 after 7 and before "past the extent"
+    // (e) 8 after 7 and before 2.11i: "the value ends past the extent"
     assert_eq!(fault(&wrap(long_header(SQ, "SQ", 1))), (7, 320));
     assert_eq!(fault(&wrap(long_header(SQ, "SQ", 2))), (8, 320));
 }

@@ -50,7 +50,7 @@ impl Element {
         Element { tag, vr: *b"OB", value: Value::Fragments(fragments) }
     }
 
-    /// UN, or a sequence with UN at any depth.
+    /// A UN, or a sequence with a UN in it, however deep.
     pub fn is_or_holds_unknown(&self) -> bool {
         let inside = match &self.value {
             Value::Items { items, .. } => {

@@ -9,8 +9,8 @@ const META_GROUP: [u8; 2] = [0x02, 0x00];
 const TRANSFER_SYNTAX_UID: [u8; 2] = [0x10, 0x00];
 
 /// The VRs with a four-byte length in PS3.5 as it is now. They are not the six of
-/// `independent::reading::LONG_FORM`: those are 01's, and 01 refuses the others,
-/// but file meta information may hold them, as UR in (0002,0026).
+/// `independent::reading::LONG_FORM`: those are RULES 2.7's, and the others are
+/// refused (2.11d), but file meta information may hold them, as UR in (0002,0026).
 const LONG_FORM: [&[u8; 2]; 13] = [
     b"OB", b"OD", b"OF", b"OL", b"OV", b"OW", b"SQ", b"SV", b"UC", b"UN", b"UR", b"UT", b"UV",
 ];
