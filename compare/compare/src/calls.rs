@@ -16,7 +16,7 @@ use inputs::random::Random;
 pub fn calls(case: &Case, random: &mut Random) -> Vec<Call> {
     match case {
         // No function of the archive reads alone, or takes a frame.
-        Case::Read { .. } | Case::Frame { .. } => Vec::new(),
+        Case::Read { .. } | Case::One { .. } | Case::Frame { .. } => Vec::new(),
         Case::Lookup { tag, data } => vec![call_lookup(data, *tag, random)],
         Case::List { room, list, data } => vec![call_list_stream(*room, list, data, random)],
         Case::ListCheck { room, expected, list, data } => {

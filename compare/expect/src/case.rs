@@ -1,7 +1,8 @@
 //! One case of a case file: a call and what is handed to it.
 
 use crate::spelling::{
-    read_bytes, read_decimal, read_tag, read_which, write_bytes, write_hex, write_tag, write_which,
+    read_bytes, read_decimal, read_left, read_tag, read_which, write_bytes, write_hex, write_tag,
+    write_which,
 };
 use independent::reading::Tag;
 use independent::sha256::RunningDigest;
@@ -18,6 +19,8 @@ pub enum Expected {
 #[derive(Clone, Debug, PartialEq, Eq)]
 pub enum Case {
     Read { data: Vec<u8> },
+    /// The first element of a data set that may have `left` levels of sequences.
+    One { left: u32, data: Vec<u8> },
     Lookup { tag: Tag, data: Vec<u8> },
     List { room: usize, list: Vec<u8>, data: Vec<u8> },
     ListCheck { room: usize, expected: Expected, list: Vec<u8>, data: Vec<u8> },
@@ -45,6 +48,9 @@ impl Case {
         let (&kind, arguments) = fields.split_first()?;
         match (kind, arguments) {
             (b"read", &[data]) => Some(Case::Read { data: read_bytes(data)? }),
+            (b"one", &[left, data]) => {
+                Some(Case::One { left: read_left(left)?, data: read_bytes(data)? })
+            }
             (b"lookup", &[tag, data]) => {
                 Some(Case::Lookup { tag: read_tag(tag)?, data: read_bytes(data)? })
             }
@@ -106,6 +112,7 @@ impl Case {
     pub fn write(&self, name: &str) -> String {
         let fields = match self {
             Case::Read { data } => format!("read {}", write_bytes(data)),
+            Case::One { left, data } => format!("one {left} {}", write_bytes(data)),
             Case::Lookup { tag, data } => {
                 format!("lookup {} {}", write_tag(*tag), write_bytes(data))
             }
@@ -190,6 +197,8 @@ mod tests {
         let bytes = Expected::Bytes(vec![0; 31]);
         let cases = [
             Case::Read { data: data.clone() },
+            Case::One { left: 0, data: data.clone() },
+            Case::One { left: u32::MAX, data: vec![] },
             Case::Lookup { tag: Tag::new(8, 0x60), data: data.clone() },
             Case::List { room: 7, list: list.clone(), data: data.clone() },
             Case::ListCheck { room: 0, expected: bytes.clone(), list, data: data.clone() },

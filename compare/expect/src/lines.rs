@@ -1,8 +1,9 @@
 //! What is printed for a case, by the independent implementation.
 
 use crate::case::{write_state, Case, Expected};
-use crate::spelling::write_hex;
+use crate::spelling::{write_hex, write_tag};
 use independent::lookup::{self, Lookup};
+use independent::reading::One;
 use independent::sha256::{sha256, Finished, RunningDigest};
 use independent::{frame, list_mode, reading, signature_mode, CheckAnswer, StreamAnswer, Verdict};
 
@@ -27,6 +28,7 @@ fn printed(case: &Case) -> Vec<u8> {
             let reading = reading::read(data);
             line(format!("{} {}", reading.number, reading.position))
         }
+        Case::One { left, data } => one_line(reading::read_one(data, *left)),
         Case::Lookup { tag, data } => lookup_line(lookup::lookup(data, *tag)),
         Case::List { room, list, data } => stream_line(list_mode::stream(data, list, *room)),
         Case::ListCheck { room, expected, list, data } => {
@@ -65,6 +67,24 @@ pub fn expected_digest(expected: &Expected, stream: impl FnOnce() -> StreamAnswe
             None => vec![0; 32],
         },
     }
+}
+
+/// The line of `one`.
+fn one_line(one: One) -> Vec<u8> {
+    let Some(element) = one.element else {
+        return line(match one.number {
+            0 => "end".to_string(),
+            number => format!("{number} {}", one.position),
+        });
+    };
+    line(format!(
+        "0 {} {} {} {} {}",
+        write_tag(element.tag),
+        String::from_utf8_lossy(&element.vr),
+        element.value_offset,
+        element.value.len(),
+        element.offset + element.bytes.len()
+    ))
 }
 
 /// The line of `lookup`.
@@ -169,12 +189,82 @@ mod tests {
         says(&format!("e finish {words} [00*64] 1 0"), &format!("e 25 {}\n", "00".repeat(32)));
     }
 
+    /// (0040,A730) SQ, its length undefined, and the header of an item likewise.
+    const OPEN: &str = "400030A753510000FFFFFFFFFEFF00E0FFFFFFFF";
+    const CLOSE: &str = "FEFF0DE000000000FEFFDDE000000000";
+
+    #[test]
+    fn one_element() {
+        says("o one 16 -", "o end\n");
+        says("o one 0 -", "o end\n");
+        says("o one 0 [00*0]", "o end\n");
+        says(&format!("o one 16 {A}"), "o 0 00080060 CS 8 2 10\n");
+        says(&format!("o one 0 {A}"), "o 0 00080060 CS 8 2 10\n");
+        says("o one 1 E07F10004F570000[00*4]", "o 0 7fe00010 OW 12 0 12\n");
+        says("o one 1 FFFFFFFF554E000004000000[AB*4]", "o 0 ffffffff UN 12 4 16\n");
+        // what stands behind is not looked at
+        says(&format!("o one 16 {A}{A}"), "o 0 00080060 CS 8 2 10\n");
+        says(&format!("o one 16 {A}00"), "o 0 00080060 CS 8 2 10\n");
+        says(&format!("o one 16 {A}FEFF0DE000000000"), "o 0 00080060 CS 8 2 10\n");
+        // the delimiter belongs to the element, not to its value
+        says(&format!("o one 1 {OPEN}{A}{CLOSE}{A}"), "o 0 0040a730 SQ 12 26 46\n");
+        says(
+            "o one 0 E07F10004F420000FFFFFFFFFEFF00E002000000AABBFEFFDDE00000000000",
+            "o 0 7fe00010 OB 12 10 30\n",
+        );
+    }
+
+    #[test]
+    fn one_element_refused() {
+        says("o one 16 00", "o 2 0\n");
+        says("o one 16 0800600043530200", "o 2 0\n");
+        says("o one 16 FEFF0DE000000000", "o 3 0\n");
+        says("o one 16 FEFF00E000000000", "o 3 0\n");
+        says("o one 16 0800600058580000", "o 5 0\n");
+        says("o one 16 E07F10004F57000100000000", "o 6 0\n");
+        says("o one 16 08006000435301005A", "o 7 0\n");
+        // inside it
+        says(&format!("o one 1 {OPEN}{A}{A}{CLOSE}"), "o 4 30\n");
+        says(&format!("o one 1 {OPEN}{A}"), "o 2 30\n");
+    }
+
+    #[test]
+    fn one_element_by_its_levels() {
+        let nested = |count: usize| format!("[{OPEN}*{count}][{CLOSE}*{count}]");
+        says(&format!("o one 0 {}", nested(1)), "o 8 0\n");
+        says("o one 0 400030A75351000000000000", "o 8 0\n");
+        says("o one 1 400030A75351000000000000", "o 0 0040a730 SQ 12 0 12\n");
+        for left in 1..=16 {
+            let deepest = format!("o 0 0040a730 SQ 12 {} {}\n", 36 * left - 20, 36 * left);
+            says(&format!("o one {left} {}", nested(left)), &deepest);
+            says(&format!("o one {left} {}", nested(left + 1)), &format!("o 8 {}\n", 20 * left));
+        }
+        // a number above 16 counts as 16
+        for left in ["17", "4294967295"] {
+            says(&format!("o one {left} {}", nested(16)), "o 0 0040a730 SQ 12 556 576\n");
+            says(&format!("o one {left} {}", nested(17)), "o 8 320\n");
+        }
+    }
+
+    #[test]
+    fn one_element_of_any_size_and_depth() {
+        // as deep as 1,048,576 bytes can be
+        says(&format!("o one 4294967295 [{OPEN}*52428]"), "o 8 320\n");
+        says(&format!("o one 16 [{OPEN}*52428]"), "o 8 320\n");
+        // the size is not tested
+        let large = "090010004F570000F8FF0F00[00*1048568]";
+        says(&format!("o one 16 {large}"), "o 0 00090010 OW 12 1048568 1048580\n");
+        says(&format!("o one 16 {A}[00*1048577]"), "o 0 00080060 CS 8 2 10\n");
+    }
+
     #[test]
     fn cases_not_understood() {
         for case in [
             "", "read", "read 0", "read 0g", "read 00 00", "read  00", "read [00]", "read [*3]",
             "read [00*]", "read [00*3", "read ]", "read [00*-1]", "read -00", "read +1",
             "read [00*99999999999999999999]", "reed 00", "lookup 0008006 -", "lookup 000800600 -",
+            "one", "one 16", "one - -", "one none -", "one -1 -", "one 4294967296 -", "one 1 - -",
+            "one 99999999999999999999 -",
             "list x 00 00", "list 1 00", "signature 1 00 nil 00", "frame", "digest", "digest zz",
             "list-check 1 SHA256 00 00", "signature-check 1 sha256 00 00",
             "feed 00 [00*64] 0 0 -", "finish [00*32] [00*63] 0 0", "finish [00*32] [00*64] 0",

@@ -18,6 +18,11 @@ pub fn read_decimal(field: &[u8]) -> Option<usize> {
     }))
 }
 
+/// LEFT: a decimal number up to 4,294,967,295.
+pub fn read_left(field: &[u8]) -> Option<u32> {
+    read_decimal(field)?.try_into().ok()
+}
+
 /// WHICH: a decimal number or `none`.
 pub fn read_which(field: &[u8]) -> Option<Option<usize>> {
     if field == b"none" {

@@ -129,6 +129,37 @@ pub fn read(data: &[u8]) -> Reading<'_> {
     }
 }
 
+/// What the reading of one element gives: 0 and the element, or 0 and none at the
+/// end of the data set, or 2 to 8 and the fault's offset. The length is 0: nothing
+/// is written.
+#[derive(Clone, Debug, PartialEq, Eq)]
+pub struct One<'d> {
+    pub number: u32,
+    pub position: usize,
+    pub length: usize,
+    pub element: Option<Element<'d>>,
+}
+
+/// Reads the first element of a data set that may have `left` levels of sequences,
+/// 16 at the top; more count as 16. The extent is all of `data`, whose size is not
+/// tested. What stands behind the element is not looked at.
+pub fn read_one(data: &[u8], left: u32) -> One<'_> {
+    let (extent, level) = (Extent::top(data), REFUSED_LEVEL.saturating_sub(left as usize));
+    let result = read_end(data, 0, extent).and_then(|end| match end {
+        Some(_) => Ok(None),
+        None => read_element(data, 0, extent, None, level).map(Some),
+    });
+    match result {
+        Ok(element) => One { number: 0, position: 0, length: 0, element },
+        Err(refusal) => One {
+            number: refusal.number,
+            position: refusal.position,
+            length: 0,
+            element: None,
+        },
+    }
+}
+
 /// 9.3 row 1: "the data set is larger than 2.1 allows".
 pub(crate) fn check_size(data: &[u8]) -> Result<(), Refusal> {
     if data.len() > MOST_BYTES {
@@ -137,10 +168,9 @@ pub(crate) fn check_size(data: &[u8]) -> Result<(), Refusal> {
     Ok(())
 }
 
-/// 2 to 8. 2.3: "The elements of the top data set are at level 0"; their extent
-/// is the data, a defined one.
+/// 2 to 8. 2.3: "The elements of the top data set are at level 0".
 pub(crate) fn read_checked_size(data: &[u8]) -> Result<DataSet<'_>, Refusal> {
-    let (data_set, _) = read_data_set(data, 0, Extent { end: data.len(), closed: false }, 0)?;
+    let (data_set, _) = read_data_set(data, 0, Extent::top(data), 0)?;
     Ok(data_set)
 }
 
@@ -154,6 +184,11 @@ struct Extent {
 }
 
 impl Extent {
+    /// All of the data, a defined extent.
+    fn top(data: &[u8]) -> Extent {
+        Extent { end: data.len(), closed: false }
+    }
+
     /// (b): 0 bytes left is the end of a defined extent only.
     fn is_end(self, at: usize) -> bool {
         !self.closed && at == self.end
@@ -197,19 +232,9 @@ fn read_data_set(
 ) -> Result<(DataSet<'_>, usize), Refusal> {
     let mut elements: Vec<Element> = Vec::new();
     let mut at = start;
-    while !extent.is_end(at) {
-        // 2.11a: "fewer than 8 bytes are left in the extent"
-        if extent.left(at) < 8 {
-            return Err(Refusal::at(2, at));
-        }
-        // 2.14: "(FFFE,E00D) with length 0, the item delimiter, ends an item of
-        // undefined length. It stands in the place of an element and is tested
-        // for right after 2.11a."
-        if extent.closed
-            && tag_at(data, at) == ITEM_DELIMITATION
-            && four_byte_length_at(data, at + 4) == 0
-        {
-            return Ok((DataSet { elements }, at + 8));
+    loop {
+        if let Some(end) = read_end(data, at, extent)? {
+            return Ok((DataSet { elements }, end));
         }
         // 2.11c: "the element before it in the same data set" (f)
         let before = elements.last().map(|element| element.tag);
@@ -217,7 +242,28 @@ fn read_data_set(
         at += element.bytes.len();
         elements.push(element);
     }
-    Ok((DataSet { elements }, at))
+}
+
+/// Where reading goes on if the data set ends at `at`; `None` if an element is due
+/// there, for which there are 8 bytes.
+fn read_end(data: &[u8], at: usize, extent: Extent) -> Result<Option<usize>, Refusal> {
+    if extent.is_end(at) {
+        return Ok(Some(at));
+    }
+    // 2.11a: "fewer than 8 bytes are left in the extent"
+    if extent.left(at) < 8 {
+        return Err(Refusal::at(2, at));
+    }
+    // 2.14: "(FFFE,E00D) with length 0, the item delimiter, ends an item of
+    // undefined length. It stands in the place of an element and is tested for
+    // right after 2.11a."
+    if extent.closed
+        && tag_at(data, at) == ITEM_DELIMITATION
+        && four_byte_length_at(data, at + 4) == 0
+    {
+        return Ok(Some(at + 8));
+    }
+    Ok(None)
 }
 
 /// 2.11: "These are the checks at one element, in their order"; 2.11a is done.

@@ -3,7 +3,7 @@
 
 mod common;
 use common::*;
-use independent::reading::read;
+use independent::reading::{read, read_one, Tag};
 
 fn fault(data: &[u8]) -> (u32, usize) {
     let reading = read(data);
@@ -198,4 +198,56 @@ fn number_8() {
     // (e) 8 after 7 and before 2.11i: "the value ends past the extent"
     assert_eq!(fault(&wrap(long_header(SQ, "SQ", 1))), (7, 320));
     assert_eq!(fault(&wrap(long_header(SQ, "SQ", 2))), (8, 320));
+}
+
+/// Number, position, and of an element its tag, the offset and length of its value
+/// and the offset behind it.
+type Said = (u32, usize, Option<(u32, usize, usize, usize)>);
+
+fn one(data: &[u8], left: u32) -> Said {
+    let one = read_one(data, left);
+    assert_eq!(one.length, 0);
+    let element = one.element.map(|element| {
+        let Tag(tag) = element.tag;
+        (tag, element.value_offset, element.value.len(), element.offset + element.bytes.len())
+    });
+    (one.number, one.position, element)
+}
+
+#[test]
+fn one_element() {
+    assert_eq!(one(&[], 16), (0, 0, None));
+    assert_eq!(one(&A[..7], 16), (2, 0, None));
+    assert_eq!(one(&join(&[&A, &A]), 0), (0, 0, Some((0x0008_0060, 8, 2, 10))));
+    assert_eq!(one(&open(SQ, "SQ", &open_item(&S)), 1), (0, 0, Some((SQ, 12, 26, 46))));
+    assert_eq!(one(&open(SQ, "SQ", &open_item(&SEQUENCE_END)), 1), (3, 20, None));
+    assert_eq!(one(&open(PIXELS, "OB", &item(&S)), 0), (0, 0, Some((PIXELS, 12, 18, 38))));
+    assert_eq!(one(&ITEM_END, 16), (3, 0, None));
+    // as the first of the data set by itself
+    for data in [&long(SQ, "SQ", &item(&S)), &long_header(SQ, "SQ", 2), &nest(17)] {
+        assert_eq!(one(data, 16).0, fault(data).0);
+        assert_eq!(one(data, 16).1, fault(data).1);
+    }
+}
+
+#[test]
+fn one_element_by_its_levels() {
+    for left in 0..=16 {
+        let count = left as usize;
+        if count > 0 {
+            let end = nest(count).len();
+            assert_eq!(one(&nest(count), left), (0, 0, Some((SQ, 12, end - 12, end))));
+        }
+        assert_eq!(one(&nest(count + 1), left), (8, 20 * count, None));
+    }
+    for left in [17, u32::MAX] {
+        assert_eq!(one(&nest(16), left).0, 0);
+        assert_eq!(one(&nest(17), left), (8, 320, None));
+    }
+    // as deep as 1,048,576 bytes can be
+    let deepest = [long_header(SQ, "SQ", UNDEFINED), item_header(UNDEFINED)].concat();
+    assert_eq!(one(&deepest.repeat(52_428), u32::MAX), (8, 320, None));
+    // no number 1
+    let large = long(0x0009_0010, "UN", &vec![0; 1_048_576]);
+    assert_eq!(one(&large, 16), (0, 0, Some((0x0009_0010, 12, 1_048_576, 1_048_588))));
 }
