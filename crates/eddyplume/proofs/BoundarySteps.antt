@@ -13,12 +13,12 @@ use Rattle.digest.specs.declared.message.Hashed.{Hashed}
 use Rattle.digest.specs.declared.running.Running.{Running}
 use Rattle.digest.specs.declared.running.Fed.{Fed}
 use Rattle.digest.specs.declared.running.Finished.{Finished}
-use Rattle.mac.specs.Result.{Result, Streamed, CheckedAs}
+use Rattle.mac.specs.Result.{Result, verdictCode, Streamed, CheckedAs}
 use Rattle.mac.specs.SignatureMode as mode
 use Rattle.mac.specs.declared.signature_mode.Signature.{Signature}
 use Rattle.mac.specs.declared.signature_mode.Signature.the-variants as signature
 use Rattle.mac.specs.declared.verdict.Checked.{Checked}
-use Rattle.eddyplume.specs.Boundary.{answerWords, verdictCode, whichOf, flag, StreamedTo, CheckedTo, LookedUp}
+use Rattle.eddyplume.specs.Boundary.{answerWords, whichOf, flag, StreamedTo, CheckedTo, LookedUp}
 use Rattle.eddyplume.specs.Boundary.{digestAfter, HashedTo, Holds, FedTo, FinishedTo}
 
 pub which-number : (numbered : Bool) (number : ℕ) → numbered ≡ true → signature.Number number ≡ whichOf numbered number
@@ -28,17 +28,18 @@ pub which-none : (numbered : Bool) (number : ℕ) → numbered ≡ false → sig
 which-none numbered number h = rw h
 
 -- ---- the modes: the call is c, of the code's call b
-module _ (c b : Result) (e : b ≡ c) (out after : List ℕ) (words : List ℕ) where
-  pub streamed-to : (a : Answer) → Streamed b out a after → words ≡ answerWords a → StreamedTo c out after words
-  streamed-to a s q = rw (← e) record { answers = q ∙ ap answerWords (s .answers); output = s .output }
+module _ (c b : Result) (e : b ≡ c) (set out after : List ℕ) (words : List ℕ) where
+  pub streamed-to : (a : Answer) → Streamed b set out a after → words ≡ answerWords a → StreamedTo c set out after words
+  streamed-to a s q = rw (← e) record { answers = q ∙ ap answerWords (s .answers); output = s .output; bytes = s .bytes }
 
-  pub checked-to : (r : Checked) (code : ℕ) → CheckedAs b out r after → words ≡ answerWords (r .answer) → code ≡ verdictCode (r .verdict)
-      → CheckedTo c out after words (code ∷ [])
+  pub checked-to : (r : Checked) (code : ℕ) → CheckedAs b set out r after → words ≡ answerWords (r .answer) → code ≡ verdictCode (r .verdict)
+      → CheckedTo c set out after words (code ∷ [])
   checked-to r code s q k =
       rw (← e) record {
         answers = q ∙ ap answerWords (s .answers);
-        says = ap (λ (n : ℕ). n ∷ []) (k ∙ ap verdictCode (s .says));
+        says = ap (λ (n : ℕ). n ∷ []) (k ∙ s .says);
         output = s .output;
+        bytes = s .bytes;
       }
 
 -- in signature mode they differ in the choice of the signature

@@ -1,1 +1,2 @@
 pub mod BoundarySteps
+pub mod Theorems

@@ -1,6 +1,6 @@
 -- What the exported functions write, in C's values (include/eddyplume.h): docs/RULES.md, 12. An array of the code is the list of its
--- numbers. `StreamedTo` and `CheckedTo` are `Streamed` and `CheckedAs` of mac with the answer as three numbers, so that what is proved of
--- those calls is said of these too.
+-- numbers. `StreamedTo` and `CheckedTo` are `Streamed` and `CheckedAs` of mac with the answer as three numbers; specs/Theorems.antt says what
+-- is proved of those calls of these too.
 -- Assumes nothing.
 use Prim.Native.Nat.{ℕ}
 use mathlib.Core.Path.{_≡_}
@@ -10,6 +10,7 @@ use lib.Dec.{eqb}
 use lib.ListN.{getD}
 use Rattle.answer.specs.declared.Answer.{Answer}
 use Rattle.answer.specs.If.{if_then_else_}
+use Rattle.dataset.specs.Bytes.{OfBytes}
 use Rattle.dataset.specs.declared.lookup.Found.{Found}
 use Rattle.digest.specs.Running.{feeding, finishing}
 use Rattle.digest.specs.Sha256.{sha256}
@@ -22,53 +23,48 @@ use Rattle.mac.specs.Result.{Result, outputAfter, verdictOf}
 use Rattle.mac.specs.SignatureMode as signatureMode
 use Rattle.mac.specs.declared.signature_mode.Signature.{Signature}
 use Rattle.mac.specs.declared.signature_mode.Signature.the-variants as signature
-use Rattle.mac.specs.declared.verdict.Verdict.{Verdict}
-use Rattle.mac.specs.declared.verdict.Verdict.the-variants as verdict
 
 -- uint64_t answer[3]: number, position, length
 abbrev pub answerWords : Answer → List ℕ
 answerWords a = a .number ∷ a .position ∷ a .length ∷ []
-
--- uint8_t verdict[1]: 0 neither, 1 same, 2 differs (docs/DECISIONS.md, B3)
-abbrev pub verdictCode : Verdict → ℕ
-verdictCode verdict.Neither = 0
-verdictCode verdict.Same = 1
-verdictCode verdict.Differs = 2
 
 -- bool numbered, uint64_t number: a signature number, or none (docs/DECISIONS.md, S8)
 abbrev pub whichOf : (numbered : Bool) (number : ℕ) → Signature
 whichOf true number = signature.Number number
 whichOf false number = signature.Unnamed
 
--- a call for the stream: what is left in the output and in `answer`
-pub record StreamedTo (c : Result) (out after answer : List ℕ) : Type 0 where
+-- a call for the stream on the data set `set`: what is left in the output and in `answer`
+pub record StreamedTo (c : Result) (set out after answer : List ℕ) : Type 0 where
   pub answers : answer ≡ answerWords (c .answer)
   pub output : after ≡ outputAfter c out
+  pub bytes : OfBytes set
 
--- a check: what is left in the work buffer, in `answer` and in `verdict`
-pub record CheckedTo (c : Result) (work after answer verdict : List ℕ) : Type 0 where
+-- a check: what is left in the work buffer, in `answer` and in `verdict`, uint8_t verdict[1]: 0 neither, 1 same, 2 differs (docs/DECISIONS.md,
+-- B3)
+pub record CheckedTo (c : Result) (set work after answer verdict : List ℕ) : Type 0 where
   pub answers : answer ≡ answerWords (c .answer)
-  pub says : verdict ≡ verdictCode (verdictOf c) ∷ []
+  pub says : verdict ≡ verdictOf c ∷ []
   pub output : after ≡ outputAfter c work
+  pub bytes : OfBytes set
 
 -- eddyplume_list_stream
 abbrev pub ListStreamed : (list set out after answer : List ℕ) → Type 0
-ListStreamed list set out after answer = StreamedTo (listMode.result (listMode.streamCall list set out)) out after answer
+ListStreamed list set out after answer = StreamedTo (listMode.result (listMode.streamCall list set out)) set out after answer
 
 -- eddyplume_list_check
 abbrev pub ListChecked : (list set expected work after answer verdict : List ℕ) → Type 0
 ListChecked list set expected work after answer verdict =
-    CheckedTo (listMode.result (listMode.checkCall list set expected work)) work after answer verdict
+    CheckedTo (listMode.result (listMode.checkCall list set expected work)) set work after answer verdict
 
 -- eddyplume_signature_stream
 abbrev pub SignatureStreamed : (uid : List ℕ) (numbered : Bool) (number : ℕ) (set out after answer : List ℕ) → Type 0
 SignatureStreamed uid numbered number set out after answer =
-    StreamedTo (signatureMode.result (signatureMode.streamCall uid (whichOf numbered number) set out)) out after answer
+    StreamedTo (signatureMode.result (signatureMode.streamCall uid (whichOf numbered number) set out)) set out after answer
 
 -- eddyplume_signature_check
 abbrev pub SignatureChecked : (uid : List ℕ) (numbered : Bool) (number : ℕ) (set expected work after answer verdict : List ℕ) → Type 0
 SignatureChecked uid numbered number set expected work after answer verdict =
-    CheckedTo (signatureMode.result (signatureMode.checkCall uid (whichOf numbered number) set expected work)) work after answer verdict
+    CheckedTo (signatureMode.result (signatureMode.checkCall uid (whichOf numbered number) set expected work)) set work after answer verdict
 
 -- a yes or no: 1 or 0
 abbrev pub flag : Bool → ℕ

@@ -4,7 +4,8 @@ use mac::signature_mode::Signature;
 use mac::verdict::Verdict;
 ghost use mathlib.Core.Path.{_≡_};
 ghost use mathlib.Core.List.{[], _∷_};
-ghost use Rattle.eddyplume.specs.Boundary.{answerWords, verdictCode, whichOf, flag};
+ghost use Rattle.mac.specs.Result.{verdictCode};
+ghost use Rattle.eddyplume.specs.Boundary.{answerWords, whichOf, flag};
 
 // Number, position, length.
 pub(crate) fn answer_words(a: Answer) -> [u64; 3]

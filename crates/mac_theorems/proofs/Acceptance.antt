@@ -1,6 +1,7 @@
 -- An accepted call in list mode: its data set is read, none of the refusals holds, and the answer is the stream's length. Assumes nothing.
 use Prim.Native.Nat.{ℕ}
 use mathlib.Core.Path.{_≡_, refl, sym, ap, _∙_}
+use mathlib.Core.Bool.{true}
 use mathlib.Core.List.{List}
 use native.Mathlib.Omega.{arith}
 use lib.ListN.{length}
@@ -15,9 +16,13 @@ use Rattle.dataset.proofs.Theorems.{faults-inside}
 use Rattle.dataset.proofs.Guarantees.{data-set-read}
 use Rattle.mac.specs.TagList.{tagsIn, listAnswer}
 use Rattle.mac.specs.Modes.{answerFrom13}
-use Rattle.mac.specs.ListMode.{Call, stream, answer}
-use Rattle.mac_theorems.specs.Demand3.{Accepted}
+use Rattle.mac.specs.Result.{isAccepted}
+use Rattle.mac.specs.ListMode.{Call, stream, answer, result}
 use Rattle.mac.proofs.From13Answers.{From13Accepts, from13-accepts, from13-accepted}
+
+-- accepted, over the definitions
+abbrev pub Accepted : Call → Type 0
+Accepted c = isAccepted (result c) ≡ true
 
 -- a data set that the reading does not refuse
 pub record IsRead (d : List ℕ) : Type 0 where

@@ -14,6 +14,7 @@ use borrow.Author.Tests.{ltb-true, ltb-false}
 use Rattle.answer.specs.declared.Answer.{Answer}
 use Rattle.answer.specs.If.{if_then_else_}
 use Rattle.answer.specs.Answer.{accepted, refused, _orElse_}
+use Rattle.answer.proofs.Refusals.{position-kept, position-none}
 use Rattle.answer.proofs.Chain.{or-else-holds}
 use Rattle.dataset.specs.Tree.{Element, Elements}
 use Rattle.dataset.specs.Reading.{Reading, fault, read, explicit, elementsAt, sizeLimit, levels, dataSet, answerOf, tree}
@@ -63,7 +64,13 @@ module _ (c : EitherCall) where
   plain-regular number k p = record {
     possible = p;
     nothing = λ n. refl;
-    positioned = record { offset = λ l u. omega arith; index = λ l u. absurd (k l u); below2 = λ l. refl; of9and10 = λ l u. refl; above15 = λ l. refl };
+    positioned = let z = position-none number in record {
+      offset = λ l u. omega (arith, z);
+      index = λ l u. absurd (k l u);
+      below2 = λ l. z;
+      of9and10 = λ l u. z;
+      above15 = λ l. z;
+    };
   }
 
   -- a number whose position is an index
@@ -73,7 +80,7 @@ module _ (c : EitherCall) where
     nothing = λ n. refl;
     positioned = record {
       offset = λ l u. absurd (omega arith);
-      index = λ l u. i;
+      index = λ l u. omega (arith, i, position-kept number index (omega arith));
       below2 = λ l. absurd (omega arith);
       of9and10 = λ l u. absurd (omega arith);
       above15 = λ l. absurd (omega arith);
@@ -173,7 +180,7 @@ module _ (c : EitherCall) where
       d = setOf c
 
       by-reading : (r : Reading Elements) → Within 0 (length d) r → Regular c (answerOf r)
-      by-reading (fault f) w = offset-regular f (w .number .0) (w .number .1) (w .nothing) (w .inside)
+      by-reading (fault f) w = offset-regular f (w .least) (w .most) (w .nothing) (w .inside)
       by-reading (read es n) w = accepted-regular 0
 
       by-size : (b : Bool) → ltb sizeLimit (length d) ≡ b → Regular c (answerOf (dataSet d))

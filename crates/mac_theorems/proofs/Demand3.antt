@@ -1,7 +1,7 @@
 -- Demand 3, as specs/Demand3.antt states it. Assumes nothing.
 use Prim.Native.Nat.{ℕ}
 use mathlib.Core.Path.{_≡_, refl, sym, ap, ap₂, _∙_}
-use mathlib.Core.Logic.{_≢_}
+use mathlib.Core.Logic.{_≢_, _↔_}
 use mathlib.Core.Bool.{Bool, true, false}
 use mathlib.Core.List.{List, []}
 use mathlib.Core.Option.{Option, some}
@@ -22,11 +22,11 @@ use Rattle.dataset.specs.Reading.{answerOf, tree}
 use Rattle.mac.specs.TagList.{tagsIn, listAnswer}
 use Rattle.mac.specs.Content.{SignedElements}
 use Rattle.mac.specs.Modes.{answerFrom13}
-use Rattle.mac.specs.Result.{compared, isAccepted, verdictOf}
+use Rattle.mac.specs.Result.{neither, compared, isAccepted, verdictOf}
 use Rattle.mac.specs.ListMode.{Call, contentOf, stream, answer, streamCall, result}
-use Rattle.mac.specs.declared.verdict.Checked.{Checked}
-use Rattle.mac.specs.declared.verdict.Verdict.the-variants as verdict
-use Rattle.mac_theorems.specs.Demand3.{Accepted, signedInFragments, on, FirstHalf, SecondHalf, Run, written, FirstHalfOfCalls, SecondHalfOfCalls, StreamRuns, CheckRuns, listedHoldUN, SameResult, AcceptedHasContent, Demand3}
+use Rattle.mac.specs.SignatureMode as mode
+use Rattle.mac_theorems.specs.Calls.{inListMode, Run, PromisedRuns}
+use Rattle.mac_theorems.specs.Demand3.{signedInFragments, listedHoldUN, on, written, FirstHalf, HasSignedContent, SecondHalf, AcceptedHasContent, Demand3}
 use Rattle.mac_theorems.proofs.Encoding.{encodeElements}
 use Rattle.mac_theorems.proofs.Injective.{ElementsFit, injective}
 use Rattle.mac_theorems.proofs.Fitting.{WithinSize}
@@ -34,7 +34,7 @@ use Rattle.mac_theorems.proofs.ListedElements.{HasContent, has-content}
 use Rattle.mac_theorems.proofs.ListedContent.{listed-encoded, content-fits, same-tags, none-hold}
 use Rattle.mac_theorems.proofs.Answers.{answer-regular}
 use Rattle.mac_theorems.proofs.Outputs.{output-stream}
-use Rattle.mac_theorems.proofs.Acceptance.{IsRead, is-read, Accepts, accepts, answer-read, answer-accepted}
+use Rattle.mac_theorems.proofs.Acceptance.{Accepted, IsRead, is-read, Accepts, accepts, answer-read, answer-accepted}
 
 -- ---- the stream of a call is the encoding of its signed content
 module _ (c : Call) (b : OfBytes (c .set)) (r : IsRead (c .set)) (row : SignedElements) (is : contentOf c ≡ some row) where
@@ -60,9 +60,10 @@ number-0 : (c : Call) → Accepted c → answer c .number ≡ 0
 number-0 c h = eqb-true (answer c .number) 0 h
 
 -- ---- over the definitions
-pub first-half : FirstHalf
+accepted-streams : (c k : Call) → OfBytes (c .set) → OfBytes (k .set) → Accepted c → Accepted k → signedInFragments (contentOf c) ≡ false
+    → (stream c ≡ stream k) ↔ (contentOf c ≡ contentOf k)
 unfolding contentOf
-first-half c k b b′ h h′ n = (there, here)
+accepted-streams c k b b′ h h′ n = (there, here)
   where
     a : Accepts c
     a = accepts c (number-0 c h)
@@ -96,7 +97,7 @@ first-half c k b b′ h h′ n = (there, here)
 same-verdict : (c : Call) (d : List ℕ) → answer (on c d) ≡ answer c → stream (on c d) ≡ stream c → verdictOf (result (on c d)) ≡ verdictOf (result c)
 unfolding verdictOf
 same-verdict c d a s =
-    ap₂ (λ (x : Answer) (y : List ℕ). if eqb (x .number) 0 then compared (c .expected) (digestOf sha256 y) else verdict.Neither) a s
+    ap₂ (λ (x : Answer) (y : List ℕ). if eqb (x .number) 0 then compared (c .expected) (digestOf sha256 y) else neither) a s
 
 -- the end of the order
 same-tail : (c : Call) (d : List ℕ) (row : SignedElements) → contentOf c ≡ some row → contentOf (on c d) ≡ contentOf c → listedHoldUN (tagsIn (c .list)) (tree (c .set)) ≡ false
@@ -116,8 +117,15 @@ row-of : (o : Option SignedElements) → o ≢ Opt.none → Row o
 row-of Opt.none h = absurd (h refl)
 row-of (some row) h = record { row = row; is = refl }
 
-pub second-half : SecondHalf
-second-half c d b b′ g g′ same = record { answers = answers; verdict = same-verdict c d answers streams; streams = streams }
+-- the two calls have the same answer, verdict and stream
+record SameResult (c k : Call) : Type 0 where
+  pub answers : answer k ≡ answer c
+  pub verdicts : verdictOf (result k) ≡ verdictOf (result c)
+  pub streams : stream k ≡ stream c
+
+same-content : (c : Call) (s : List ℕ) → OfBytes (c .set) → OfBytes s → HasSignedContent c → HasSignedContent (on c s)
+    → contentOf (on c s) ≡ contentOf c → SameResult c (on c s)
+same-content c d b b′ g g′ same = record { answers = answers; verdicts = same-verdict c d answers streams; streams = streams }
   where
     k : Call
     k = on c d
@@ -137,79 +145,99 @@ second-half c d b b′ g g′ same = record { answers = answers; verdict = same-
     answers : answer (on c d) ≡ answer c
     answers = answer-read (on c d) r′ ∙ ap (λ (x : Answer). listAnswer (c .list) orElse x) (same-tail c d (s .row) (s .is) same (g .known) (g′ .known) streams) ∙ sym (answer-read c r)
 
--- ---- of the calls themselves
+-- ---- of what the calls give back
 
--- what the functions promise makes a run
-pub streamed-run : StreamRuns
-unfolding verdictOf if_then_else_
-streamed-run list set out after r u = record { room = refl; answers = u .answers; says = go (isAccepted (result (streamCall list set out))); output = u .output }
-  where
-    go : (a : Bool) → verdict.Neither ≡ (if a then verdict.Neither else verdict.Neither)
-    go true = refl
-    go false = refl
+-- what the functions promise makes a run: a call for the stream says neither
+stream-says : (a : Bool) → neither ≡ (if a then neither else neither)
+unfolding if_then_else_
+stream-says true = refl
+stream-says false = refl
 
-pub checked-run : CheckRuns
-checked-run list set expected work after r u = record { room = refl; answers = u .answers; says = u .says; output = u .output }
+promised : PromisedRuns
+unfolding verdictOf
+promised = record {
+  list-stream = λ list set out after r u. record {
+    room = refl;
+    answers = u .answers;
+    says = stream-says (isAccepted (result (streamCall list set out)));
+    output = u .output;
+    bytes = u .bytes;
+  };
+  list-check = λ list set expected work after r u. record { room = refl; answers = u .answers; says = u .says; output = u .output; bytes = u .bytes };
+  signature-stream = λ uid which set out after r u. record {
+    room = refl;
+    answers = u .answers;
+    says = stream-says (isAccepted (mode.result (mode.streamCall uid which set out)));
+    output = u .output;
+    bytes = u .bytes;
+  };
+  signature-check = λ uid which set expected work after r u. record { room = refl; answers = u .answers; says = u .says; output = u .output; bytes = u .bytes };
+}
 
-module _ (c : Call) (out after : List ℕ) (r : Checked) (u : Run c out r after) where
-  run-accepted : r .answer .number ≡ 0 → Accepted c
+module _ (c : Call) (out after : List ℕ) (a : Answer) (said : ℕ) (u : Run (inListMode c) out a said after) where
+  run-accepted : a .number ≡ 0 → Accepted c
   run-accepted h = eq-eqb (answer c .number) 0 (ap (λ (x : Answer). x .number) (sym (u .answers)) ∙ h)
 
   -- what an accepted call has written is its stream
-  written-stream : Accepted c → written r after ≡ stream c
+  written-stream : Accepted c → written a after ≡ stream c
   written-stream h = ap₂ (λ (x : Answer) (y : List ℕ). take (x .length) y) (u .answers) (u .output) ∙ output-stream (result c) out h (ap (λ (x : Answer). x .length) (answer-accepted c h))
 
-pub first-half-of-calls : FirstHalfOfCalls
-first-half-of-calls c k out out′ after after′ r r′ u u′ b b′ h h′ n =
-    let a = run-accepted c out after r u h in
-    let a′ = run-accepted k out′ after′ r′ u′ h′ in
-    let w = written-stream c out after r u a in
-    let w′ = written-stream k out′ after′ r′ u′ a′ in
-    let f = first-half c k b b′ a a′ n in
+  -- a refused call has written nothing
+  nothing-written : (a .number ≡ 0 → ⊥) → written a after ≡ []
+  nothing-written n =
+      ap (λ (m : ℕ). take m after)
+      (ap (λ (y : Answer). y .length) (u .answers) ∙ answer-regular c .nothing (λ z. n (ap (λ (y : Answer). y .number) (u .answers) ∙ z)))
+
+first-half : FirstHalf
+first-half c k out out′ after after′ a a′ said said′ u u′ h h′ n =
+    let g = run-accepted c out after a said u h in
+    let g′ = run-accepted k out′ after′ a′ said′ u′ h′ in
+    let w = written-stream c out after a said u g in
+    let w′ = written-stream k out′ after′ a′ said′ u′ g′ in
+    let f = accepted-streams c k (u .bytes) (u′ .bytes) g g′ n in
     (λ q. f .0 (sym w ∙ q ∙ w′), λ q. w ∙ f .1 q ∙ sym w′)
 
-pub second-half-of-calls : SecondHalfOfCalls
-second-half-of-calls c s out out′ after after′ r r′ u u′ b b′ g g′ same = record { answers = q; verdict = u′ .says ∙ f .verdict ∙ sym (u .says); streams = go (eqb (r .answer .number) 0) refl }
+second-half : SecondHalf
+second-half c s out out′ after after′ a a′ said said′ u u′ g g′ same = record {
+  answers = q;
+  verdicts = u′ .says ∙ f .verdicts ∙ sym (u .says);
+  streams = go (eqb (a .number) 0) refl;
+}
   where
     f : SameResult c (on c s)
-    f = second-half c s b b′ g g′ same
+    f = same-content c s (u .bytes) (u′ .bytes) g g′ same
 
-    q : r′ .answer ≡ r .answer
+    q : a′ ≡ a
     q = u′ .answers ∙ f .answers ∙ sym (u .answers)
 
-    -- a refused call has written nothing
-    nothing : (c : Call) (x : Checked) (out after : List ℕ) → Run c out x after → (x .answer .number ≡ 0 → ⊥) → written x after ≡ []
-    nothing c x out after w n = ap (λ (m : ℕ). take m after) (ap (λ (y : Answer). y .length) (w .answers) ∙ answer-regular c .nothing (λ z. n (ap (λ (y : Answer). y .number) (w .answers) ∙ z)))
+    number : a′ .number ≡ a .number
+    number = ap (λ (x : Answer). x .number) q
 
-    go : (t : Bool) → eqb (r .answer .number) 0 ≡ t → written r′ after′ ≡ written r after
+    go : (t : Bool) → eqb (a .number) 0 ≡ t → written a′ after′ ≡ written a after
     go true e =
-        let h = eqb-true (r .answer .number) 0 e in
-        let a = run-accepted c out after r u h in
-        let a′ = run-accepted (on c s) out′ after′ r′ u′ (ap (λ (x : Answer). x .number) q ∙ h) in
-        written-stream (on c s) out′ after′ r′ u′ a′ ∙ f .streams ∙ sym (written-stream c out after r u a)
+        let h = eqb-true (a .number) 0 e in
+        let x = run-accepted c out after a said u h in
+        let x′ = run-accepted (on c s) out′ after′ a′ said′ u′ (number ∙ h) in
+        written-stream (on c s) out′ after′ a′ said′ u′ x′ ∙ f .streams ∙ sym (written-stream c out after a said u x)
     go false e =
-        let n = eqb-false (r .answer .number) 0 e in
-        nothing (on c s) r′ out′ after′ u′ (λ z. n (ap (λ (x : Answer). x .number) (sym q) ∙ z)) ∙ sym (nothing c r out after u n)
+        let n = eqb-false (a .number) 0 e in
+        nothing-written (on c s) out′ after′ a′ said′ u′ (λ z. n (sym number ∙ z)) ∙ sym (nothing-written c out after a said u n)
 
 accepted-has-content : AcceptedHasContent
 unfolding contentOf
-accepted-has-content c h =
-    let a = accepts c (number-0 c h) in
-    let r = call-has-content c a in
+accepted-has-content c out after a said u h =
+    let x = accepts c (number-0 c (run-accepted c out after a said u h)) in
+    let r = call-has-content c x in
     record {
-      wellFormed = accepted-well-formed (c .set) (ap answerOf (a .read .is));
+      wellFormed = accepted-well-formed (c .set) (ap answerOf (x .read .is));
       holds = λ e. let z : _≡_ {A = ℕ} 0 1 = cc (r .is, e) in omega arith;
-      known = none-hold (tagsIn (c .list)) 0 (tree (c .set)) (a .from13 .found);
+      known = none-hold (tagsIn (c .list)) 0 (tree (c .set)) (x .from13 .found);
     }
 
 pub demand-3 : Demand3
-demand-3 =
-    record {
-      first-half = first-half;
-      second-half = second-half;
-      stream-runs = streamed-run;
-      check-runs = checked-run;
-      first-half-of-calls = first-half-of-calls;
-      second-half-of-calls = second-half-of-calls;
-      accepted-has-content = accepted-has-content;
-    }
+demand-3 = record {
+  promised = promised;
+  first-half = first-half;
+  second-half = second-half;
+  accepted-has-content = accepted-has-content;
+}

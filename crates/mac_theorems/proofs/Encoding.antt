@@ -8,6 +8,7 @@ use lib.ListN.{length}
 use Rattle.dataset.specs.Bytes.{num16, num32, tagAt, vrAt, between}
 use Rattle.answer.specs.If.{if_then_else_}
 use Rattle.dataset.specs.Vr.{SQ, OB, shortForm, longForm, oneOf, formOf}
+use Rattle.dataset.specs.Reading.{deeper}
 use Rattle.dataset.specs.Tree.{Span, Element, Elements, Items, tagOf}
 use Rattle.dataset.specs.Order.{Sized}
 use Rattle.dataset.proofs.Lies.{ElementLies, ElementsLie, ItemsLie}
@@ -129,4 +130,4 @@ mutual
   items-encoded : (is : Items) (d : List ℕ) → OfBytes d → (left at next : ℕ) → ItemsLie is d left at next → itemsStream is d ≡ encodeItems (signedItems is d)
   items-encoded Items.last d b left at next r = refl
   items-encoded (Items.item p es is) d b left at next r =
-      ap₂ (λ (x y : List ℕ). itemTagBytes ++ (x ++ y)) (elements-encoded es d b (left - 1) 0 (at + 8) (r .0) (r .3)) (items-encoded is d b left (r .0) next (r .4))
+      ap₂ (λ (x y : List ℕ). itemTagBytes ++ (x ++ y)) (elements-encoded es d b (deeper left) 0 (at + 8) (r .0) (r .3)) (items-encoded is d b left (r .0) next (r .4))

@@ -9,7 +9,7 @@ use Rattle.dataset.specs.Bytes.{tagAt, between}
 use Rattle.dataset.specs.Tree.{Element, Elements, Items, tagOf}
 use Rattle.dataset.specs.Order.{Tagged}
 use Rattle.dataset.proofs.Lies.{ElementLies, ElementsLie, ItemsLie}
-use Rattle.dataset.specs.Reading.{sizeLimit}
+use Rattle.dataset.specs.Reading.{sizeLimit, deeper}
 use Rattle.mac.specs.TagList.{barred, unlessBarred}
 use Rattle.mac.specs.Content.{SignedElement, SignedElements, signed, signedElements, signedItems}
 use Rattle.dataset.specs.Bytes.{OfBytes}
@@ -65,4 +65,4 @@ mutual
   items-fit : (is : Items) (d : List ℕ) → WithinSize d → (left at next : ℕ) → ItemsLie is d left at next → ItemsFit (signedItems is d)
   items-fit Items.last d b left at next r = tt
   items-fit (Items.item p es is) d b left at next r =
-      (elements-fit es d b (left - 1) 0 (at + 8) (r .0) (r .3), items-fit is d b left (r .0) next (r .4))
+      (elements-fit es d b (deeper left) 0 (at + 8) (r .0) (r .3), items-fit is d b left (r .0) next (r .4))

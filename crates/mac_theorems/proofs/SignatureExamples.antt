@@ -5,7 +5,7 @@ use Rattle.answer.specs.Answer.{_orElse_}
 use Rattle.dataset.specs.Bytes.{num16, num32, tagAt, vrAt, between}
 use Rattle.dataset.specs.Vr.{formOf, oneOf}
 use Rattle.dataset.specs.Header.{endsAt, closedBy, badLength, tooDeep, undefinedBy, definedBy, valueBy, longAt, byForm, vrOnAt, elementAt, itemBy, itemAt}
-use Rattle.dataset.specs.Reading.{byHeader, byOne, byItem, elementsBy, elementsAt, dataSet}
+use Rattle.dataset.specs.Reading.{byHeader, byOne, byItem, elementsBy, elementsAt, dataSet, deeper}
 use Rattle.dataset.specs.Lookup.{elementOf}
 use Rattle.mac.specs.TagList.{tagsIn, barred, badSize, ascendingAnswer, unbarredAnswer, listAnswer}
 use Rattle.mac.specs.Stream.{streamOf, listedStream}
@@ -18,5 +18,5 @@ use Rattle.mac.specs.SignatureMode.{named, leftOut, own, streamBy, answerBy, st
 use Rattle.mac_theorems.specs.SignatureExamples.{examples, SignatureExamplesHold}
 
 pub signature-examples-hold : SignatureExamplesHold
-unfolding examples answer answerBy streamBy own leftOut named select parametersSelect badAlgorithm isTerm onlySpaces badTransferSyntax lessNul parametersItem macIdOf signatureItem firstItem valueOf sameBytes answerFrom13 outputAfter stream _orElse_ if_then_else_ listAnswer badSize ascendingAnswer unbarredAnswer barred tagsIn tagsAnswer elementAnswer holdsUN listedStream streamOf elementOf dataSet elementsAt elementsBy byHeader byOne byItem elementAt vrOnAt byForm longAt badLength tooDeep undefinedBy definedBy valueBy itemAt itemBy endsAt closedBy formOf oneOf num16 num32 tagAt vrAt between
+unfolding examples answer answerBy streamBy own leftOut named select parametersSelect badAlgorithm isTerm onlySpaces badTransferSyntax lessNul parametersItem macIdOf signatureItem firstItem valueOf sameBytes answerFrom13 outputAfter stream _orElse_ if_then_else_ listAnswer badSize ascendingAnswer unbarredAnswer barred tagsIn tagsAnswer elementAnswer holdsUN listedStream streamOf elementOf dataSet elementsAt elementsBy byHeader byOne byItem deeper elementAt vrOnAt byForm longAt badLength tooDeep undefinedBy definedBy valueBy itemAt itemBy endsAt closedBy formOf oneOf num16 num32 tagAt vrAt between
 signature-examples-hold = refl

@@ -5,16 +5,15 @@ use mathlib.Core.Logic.{_≢_}
 use mathlib.Core.Bool.{Bool, true, false, true≢false, false≢true}
 use mathlib.Core.List.{List, [], _∷_}
 use mathlib.Core.Option.{Option, some}
+use native.Mathlib.Omega.{arith}
 use lib.Dec.{eqb}
 use borrow.Author.Tests.{eqb-true, eq-eqb}
 use Rattle.answer.specs.If.{if_then_else_}
 use Rattle.dataset.proofs.Bools.{both}
 use Rattle.digest.specs.Message.{digestOf}
 use Rattle.digest.specs.Sha256.{sha256}
-use Rattle.mac.specs.Result.{Result, isAccepted, compared, verdictOf}
+use Rattle.mac.specs.Result.{Result, isAccepted, neither, same, differs, compared, verdictOf}
 use Rattle.mac.specs.Bytes.{sameBytes}
-use Rattle.mac.specs.declared.verdict.Verdict.{Verdict}
-use Rattle.mac.specs.declared.verdict.Verdict.the-variants as verdict
 use Rattle.mac_theorems.specs.Theorems.{Says}
 
 -- ---- the comparison
@@ -36,46 +35,46 @@ differ : (x y : List ℕ) → sameBytes x y ≡ false → x ≢ y
 differ x y h e = true≢false (sym (bytes-same x) ∙ ap (sameBytes x) e ∙ h)
 
 -- ---- the verdict
-abbrev verdictBy : (accepted same : Bool) → Verdict
-verdictBy true true = verdict.Same
-verdictBy true false = verdict.Differs
-verdictBy false same = verdict.Neither
+abbrev verdictBy : (accepted equal : Bool) → ℕ
+verdictBy true true = same
+verdictBy true false = differs
+verdictBy false equal = neither
 
 module _ (c : Result) (e : List ℕ) (x : c .expected ≡ some e) where
-  abbrev same : Bool
-  same = sameBytes (digestOf sha256 (c .stream)) e
+  abbrev equal : Bool
+  equal = sameBytes (digestOf sha256 (c .stream)) e
 
-  verdict-by : verdictOf c ≡ verdictBy (isAccepted c) same
+  verdict-by : verdictOf c ≡ verdictBy (isAccepted c) equal
   unfolding verdictOf if_then_else_
-  verdict-by = ap (λ (o : Option (List ℕ)). if isAccepted c then compared o (digestOf sha256 (c .stream)) else verdict.Neither) x ∙ go (isAccepted c) same
+  verdict-by = ap (λ (o : Option (List ℕ)). if isAccepted c then compared o (digestOf sha256 (c .stream)) else neither) x ∙ go (isAccepted c) equal
     where
-      go : (a s : Bool) → (if a then (if s then verdict.Same else verdict.Differs) else verdict.Neither) ≡ verdictBy a s
+      go : (a s : Bool) → (if a then (if s then same else differs) else neither) ≡ verdictBy a s
       go true true = refl
       go true false = refl
       go false s = refl
 
   pub says : Says c e
-  says = go (isAccepted c) same refl refl
+  says = go (isAccepted c) equal refl refl
     where
-      go : (a s : Bool) → isAccepted c ≡ a → same ≡ s → Says c e
+      go : (a s : Bool) → isAccepted c ≡ a → equal ≡ s → Says c e
       go true true p q =
-          let v : verdictOf c ≡ verdict.Same = verdict-by ∙ ap₂ verdictBy p q in
+          let v : verdictOf c ≡ same = verdict-by ∙ ap₂ verdictBy p q in
           record {
-            same = (λ w. (p, same-bytes _ e q), λ w. v);
-            differs = (λ w. absurd (true≢false (cc)), λ w. absurd (w .1 (same-bytes _ e q)));
-            neither = (λ w. absurd (true≢false (cc)), λ w. absurd (true≢false (sym p ∙ w)));
+            says-same = (λ w. (p, same-bytes _ e q), λ w. v);
+            says-differs = (λ w. absurd (omega (arith, v, w)), λ w. absurd (w .1 (same-bytes _ e q)));
+            says-neither = (λ w. absurd (omega (arith, v, w)), λ w. absurd (true≢false (sym p ∙ w)));
           }
       go true false p q =
-          let v : verdictOf c ≡ verdict.Differs = verdict-by ∙ ap₂ verdictBy p q in
+          let v : verdictOf c ≡ differs = verdict-by ∙ ap₂ verdictBy p q in
           record {
-            same = (λ w. absurd (true≢false (cc)), λ w. absurd (differ _ e q (w .1)));
-            differs = (λ w. (p, differ _ e q), λ w. v);
-            neither = (λ w. absurd (true≢false (cc)), λ w. absurd (true≢false (sym p ∙ w)));
+            says-same = (λ w. absurd (omega (arith, v, w)), λ w. absurd (differ _ e q (w .1)));
+            says-differs = (λ w. (p, differ _ e q), λ w. v);
+            says-neither = (λ w. absurd (omega (arith, v, w)), λ w. absurd (true≢false (sym p ∙ w)));
           }
       go false s p q =
-          let v : verdictOf c ≡ verdict.Neither = verdict-by ∙ ap₂ verdictBy p q in
+          let v : verdictOf c ≡ neither = verdict-by ∙ ap₂ verdictBy p q in
           record {
-            same = (λ w. absurd (true≢false (cc)), λ w. absurd (false≢true (sym p ∙ w .0)));
-            differs = (λ w. absurd (true≢false (cc)), λ w. absurd (false≢true (sym p ∙ w .0)));
-            neither = (λ w. p, λ w. v);
+            says-same = (λ w. absurd (omega (arith, v, w)), λ w. absurd (false≢true (sym p ∙ w .0)));
+            says-differs = (λ w. absurd (omega (arith, v, w)), λ w. absurd (false≢true (sym p ∙ w .0)));
+            says-neither = (λ w. p, λ w. v);
           }

@@ -34,8 +34,8 @@ given x =
 abbrev pub wanted : Example → Answer × List ℕ
 wanted x = (x .answers, x .stream ++ drop (length (x .stream)) (untouched (x .room)))
 
-abbrev accepts : (list set : List ℕ) (room length : ℕ) (stream : List ℕ) → Example
-accepts list set room length stream = record { list = list; set = set; room = room; answers = accepted length; stream = stream }
+abbrev accepts : (list set : List ℕ) (room size : ℕ) (stream : List ℕ) → Example
+accepts list set room size stream = record { list = list; set = set; room = room; answers = accepted size; stream = stream }
 
 abbrev refuses : (list set : List ℕ) (room number position : ℕ) → Example
 refuses list set room number position = record { list = list; set = set; room = room; answers = refused number position; stream = [] }

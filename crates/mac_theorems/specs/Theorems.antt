@@ -18,13 +18,12 @@ use Rattle.digest.specs.Message.{digestOf}
 use Rattle.digest.specs.Sha256.{sha256}
 use Rattle.mac.specs.TagList.{tagsIn, listAnswer}
 use Rattle.mac.specs.Stream.{elementsStream}
-use Rattle.mac.specs.Result.{Result, isAccepted, outputAfter, verdictOf}
+use Rattle.mac.specs.Result.{Result, isAccepted, outputAfter, neither, same, differs, verdictOf}
 use Rattle.mac.specs.ListMode as listMode
 use Rattle.mac.specs.Selection.{selected}
 use Rattle.mac.specs.SignatureMode.{own}
 use Rattle.mac.specs.SignatureMode as signatureMode
 use Rattle.mac.specs.declared.signature_mode.Signature.{Signature}
-use Rattle.mac.specs.declared.verdict.Verdict.the-variants as verdict
 use Rattle.mac_theorems.specs.Calls.{EitherCall, inListMode, inSignatureMode, setOf, listOf, roomOf, resultOf}
 use Rattle.mac_theorems.specs.Removed17.{Without17}
 
@@ -74,9 +73,9 @@ RefusedOutput = (c : EitherCall) (out : List ℕ) → isAccepted (resultOf c) �
 -- A check with the expected digest e says "same" exactly when it is accepted and the digest of its stream equals e, "differs" exactly when
 -- it is accepted and the digest is another, and neither exactly when it is refused.
 pub record Says (c : Result) (e : List ℕ) : Type 0 where
-  pub same : (verdictOf c ≡ verdict.Same) ↔ ((isAccepted c ≡ true) × (digestOf sha256 (c .stream) ≡ e))
-  pub differs : (verdictOf c ≡ verdict.Differs) ↔ ((isAccepted c ≡ true) × (digestOf sha256 (c .stream) ≢ e))
-  pub neither : (verdictOf c ≡ verdict.Neither) ↔ (isAccepted c ≡ false)
+  pub says-same : (verdictOf c ≡ same) ↔ ((isAccepted c ≡ true) × (digestOf sha256 (c .stream) ≡ e))
+  pub says-differs : (verdictOf c ≡ differs) ↔ ((isAccepted c ≡ true) × (digestOf sha256 (c .stream) ≢ e))
+  pub says-neither : (verdictOf c ≡ neither) ↔ (isAccepted c ≡ false)
 
 abbrev pub VerdictExact : Type 0
 VerdictExact = (c : EitherCall) (e : List ℕ) → resultOf c .expected ≡ some e → Says (resultOf c) e
