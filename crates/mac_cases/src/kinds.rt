@@ -18,12 +18,16 @@ pub(crate) fn run_case(line: &[u8], data: &mut [u8], out: &mut [u8]) {
         reading_kinds::read_case(line, data);
         return;
     }
+    if fields::is(line, b"one", 4) {
+        reading_kinds::one_case(line, data);
+        return;
+    }
     if fields::is(line, b"lookup", 4) {
         reading_kinds::lookup_case(line, data);
         return;
     }
     if fields::is(line, b"frame", 3) {
-        frame_kind::frame_case(line, data, out);
+        frame_kind::frame_case(line, data);
         return;
     }
     mode_kinds::run_mode_case(line, data, out);

@@ -2,6 +2,9 @@
 // spaces; an empty line and one that starts with # print nothing; a line that is not understood prints `NAME ?`. Of a longer input
 // than 2,228,223 bytes nothing is run: it prints the one line `input over 2228223 bytes`.
 //   NAME read DATA                                       prints NAME NUMBER POSITION
+//   NAME one LEFT DATA                                   prints what the reader of one element answers at the start of the data with LEFT
+//                                                        levels left: NAME NUMBER POSITION where it is refused, NAME end where there is no
+//                                                        data, or NAME 0 TAG VR START LENGTH NEXT
 //   NAME lookup TAG DATA                                 prints NAME NUMBER POSITION yes|no LENGTH HEX, without HEX where LENGTH is 0
 //   NAME list ROOM LIST DATA                             prints NAME NUMBER POSITION LENGTH HEX, without HEX where LENGTH is 0
 //   NAME list-check ROOM EXPECTED LIST DATA              prints NAME NUMBER POSITION LENGTH neither|same|differs

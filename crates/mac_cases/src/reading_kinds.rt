@@ -2,10 +2,13 @@
 use crate::bytes;
 use crate::bytes::Bytes;
 use crate::fields;
+use crate::fields::Number;
 use crate::fields::Tag;
 use crate::print;
 use dataset::lookup;
 use dataset::reading;
+use dataset::reading::OneOutcome;
+use libc::STDOUT_FILENO;
 
 fn print_reading(d: &[u8]) {
     let a = reading::read(d);
@@ -18,6 +21,59 @@ fn print_reading(d: &[u8]) {
 pub(crate) fn read_case(line: &[u8], data: &mut [u8]) {
     match bytes::put(fields::field(line, 2), data) {
         Bytes::Good(n) => print_reading(fields::first(data, n)),
+        Bytes::Bad => print::not_understood(),
+    }
+}
+
+// The two letters of a VR.
+fn print_vr(vr: u16) {
+    let letters = [b' ', (vr / 256) as u8, (vr % 256) as u8];
+    print::text(&letters);
+}
+
+// The tag, the VR, the start and the length of the value, and the offset past the element.
+fn print_element(tag: u32, vr: u16, start: usize, end: usize, next: usize) {
+    print::text(b" 0 ");
+    io::print_hex(STDOUT_FILENO, tag as u64, 8);
+    print_vr(vr);
+    print::number(start as u64);
+    if start <= end {
+        print::number((end - start) as u64);
+    }
+    print::number(next as u64);
+}
+
+// What the reader of one element answers at the start of the data, with so many levels left.
+fn print_one(d: &[u8], left: u32) {
+    match reading::read_one(d, false, left, d.len(), 0, 0) {
+        OneOutcome::Refused(a) => {
+            print::number(a.number as u64);
+            print::number(a.position as u64);
+        }
+        OneOutcome::End(_) => print::text(b" end"),
+        OneOutcome::Element {
+            tag,
+            vr,
+            start,
+            end,
+            next,
+        } => print_element(tag, vr, start, end, next),
+    }
+    print::text(b"\n");
+}
+
+// NAME one LEFT DATA
+pub(crate) fn one_case(line: &[u8], data: &mut [u8]) {
+    let Number::Good(left) = fields::number_of(fields::field(line, 2)) else {
+        print::not_understood();
+        return;
+    };
+    if 4294967295 < left {
+        print::not_understood();
+        return;
+    }
+    match bytes::put(fields::field(line, 3), data) {
+        Bytes::Good(n) => print_one(fields::first(data, n), left as u32),
         Bytes::Bad => print::not_understood(),
     }
 }

@@ -21,9 +21,10 @@ use Rattle.mac_theorems.specs.Theorems.{Positioned}
 use Rattle.mac_theorems.proofs.Theorems as mac
 use Rattle.mac_theorems.proofs.Acceptance.{answer-accepted}
 use Rattle.mac_frame.specs.Text.{hex, isEmpty, lineEnd, hexFrom}
-use Rattle.mac_frame.specs.Frame.{frameOf, frameCall, report, printedBy, printed}
+use Rattle.mac_frame.specs.Frame.{frameOf, frameCall, report, printedBy, printed, Printed}
 use Rattle.mac_frame.specs.declared.frame.Frame.{Frame}
 use Rattle.mac_frame.specs.declared.frame.Frame.the-variants as frame
+use Rattle.mac_frame.specs.Inner.Wrote.{Wrote}
 use Rattle.mac_frame.proofs.TextSteps.{length-line}
 use Rattle.mac_frame.proofs.FrameSteps.{within-room, good-frame}
 
@@ -119,3 +120,7 @@ printed-by s (frame.ListEnds end) e =
 pub fits : (s : List ℕ) → length (printed s) ≤ 135168
 unfolding printed
 fits s = printed-by s (frameOf s) refl
+
+-- the text fits into the array
+pub printed-whole : (s text after : List ℕ) (r : ℕ) → length text ≡ 135168 → Wrote text 0 (printed s) r after → Printed s text r after
+printed-whole s text after r n w = record { size = omega (arith, w .place); fits = omega (arith, w .place, n, fits s); bytes = w .wrote }

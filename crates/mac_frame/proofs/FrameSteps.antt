@@ -5,13 +5,11 @@ use mathlib.Core.Path.{_≡_, refl, sym, ap, ap₂, subst, _∙_}
 use mathlib.Core.Bool.{Bool, true, false}
 use mathlib.Core.List.{List, [], _++_, append-nil}
 use mathlib.Core.Option as Opt
-use native.Mathlib.Nat.{zero-add}
 use native.Mathlib.Decide.{decLt}
 use native.Mathlib.Omega.{arith}
 use borrow.Author.Tests.{lt-ltb, le-ltb, eq-eqb, ne-eqb, eqb-true, eqb-false, ltb-false}
 use lib.Dec.{eqb}
 use lib.ListN.{length, getD, take}
-use lib.Seq.{sets}
 use Rattle.answer.specs.declared.Answer.{Answer}
 use Rattle.answer.specs.If.{if_then_else_}
 use Rattle.answer.specs.Answer.{refused}
@@ -19,7 +17,7 @@ use Rattle.dataset.specs.Bytes.{between}
 use Rattle.mac.specs.Result.{isAccepted, outputAfter}
 use Rattle.mac.specs.ListMode.{Call, answer, stream, streamCall, result}
 use Rattle.mac_frame.specs.Text.{line, hexLines}
-use Rattle.mac_frame.specs.Frame.{inputLimit, outputRoom, big32, frameOf, frameCall, report, printedBy, printed, Printed}
+use Rattle.mac_frame.specs.Frame.{inputLimit, outputRoom, big32, frameOf, frameCall, report, printedBy, printed}
 use Rattle.mac_frame.specs.Inner.Wrote.{Wrote, Holds}
 use Rattle.mac_theorems.proofs.Acceptance.{accepts, answer-accepted}
 use Rattle.mac_theorems.proofs.Outputs.{output-stream}
@@ -155,19 +153,19 @@ pub frame-call : (s out : List ℕ) (end : ℕ) → length out ≡ outputRoom
 frame-call s out end e = λ i. record { list = between s 5 end; set = between s (end + 4) (length s); room = e i; expected = Opt.none }
 
 printed-as : (s text after : List ℕ) (r : ℕ) (f g : Frame) → f ≡ frameOf s → f ≡ g → Wrote text 0 (printedBy g s) r after
-    → Printed s text r after
+    → Wrote text 0 (printed s) r after
 unfolding printed
 printed-as s text after r f g e q w =
     let p : printedBy g s ≡ printed s = ap (λ (x : Frame). printedBy x s) (sym q ∙ e) in
-    record { size = w .place ∙ zero-add (length (printedBy g s)) ∙ ap length p; bytes = w .wrote ∙ ap (sets text 0) p }
+    subst (λ (x : List ℕ). Wrote text 0 x r after) p w
 
 pub printed-bad : (s text after : List ℕ) (r : ℕ) (f : Frame) (a : Answer) → f ≡ frameOf s → f ≡ frame.Bad → a ≡ refused 24 0
-    → Wrote text 0 (line a) r after → Printed s text r after
+    → Wrote text 0 (line a) r after → Wrote text 0 (printed s) r after
 printed-bad s text after r f a e q z w =
     printed-as s text after r f frame.Bad e q (subst (λ (x : Answer). Wrote text 0 (line x) r after) z w)
 
 pub printed-good : (s text after : List ℕ) (r end : ℕ) (f : Frame) → f ≡ frameOf s → f ≡ frame.ListEnds end
-    → Wrote text 0 (report (frameCall s end)) r after → Printed s text r after
+    → Wrote text 0 (report (frameCall s end)) r after → Wrote text 0 (printed s) r after
 printed-good s text after r end f e q w = printed-as s text after r f (frame.ListEnds end) e q w
 
 pub holds-matched : (s : List ℕ) (end : ℕ) (f : Frame) → f ≡ frameOf s → f ≡ frame.ListEnds end → Holds s end

@@ -1,6 +1,6 @@
 -- The stream program: docs/RULES.md, 11.
 -- Assumes nothing.
-use Prim.Native.Nat.{ℕ, _+_, _*_, _^_}
+use Prim.Native.Nat.{ℕ, _+_, _*_, _^_, _≤_}
 use mathlib.Core.Path.{_≡_}
 use mathlib.Core.Bool.{not}
 use mathlib.Core.List.{List, [], _++_}
@@ -59,8 +59,9 @@ printedBy (frame.ListEnds end) s = report (frameCall s end)
 unfoldable pub printed : List ℕ → List ℕ
 printed s = printedBy (frameOf s) s
 
--- What `print_frame` gives back, r: the number of bytes to print; and leaves in the text buffer: these bytes, as far as they fit
--- (docs/DECISIONS.md, L9).
+-- What `print_frame` gives back, r: the number of bytes to print; and leaves in the array that it is lent for the text: these bytes, all of
+-- them (docs/DECISIONS.md, L9), and what stood behind them.
 pub record Printed (s text : List ℕ) (r : ℕ) (after : List ℕ) : Type 0 where
   pub size : r ≡ length (printed s)
+  pub fits : r ≤ length text
   pub bytes : after ≡ sets text 0 (printed s)

@@ -7,7 +7,7 @@ use mathlib.Core.List.{List, _∷_, _++_}
 use mathlib.Core.Option as Opt
 use lib.ListN.{length}
 use Rattle.mac.specs.ListMode.{Call}
-use Rattle.mac_frame.specs.Frame.{inputLimit, outputRoom, big32, frameOf, frameCall, printed}
+use Rattle.mac_frame.specs.Frame.{inputLimit, outputRoom, big32, frameOf, frameCall}
 use Rattle.mac_frame.specs.declared.frame.Frame.the-variants as frame
 
 -- RULES, 11.1: "a frame of at most 65,536 bytes: the byte 1 for the version; a length in bytes, itself four bytes with the high byte first,
@@ -36,12 +36,7 @@ FramesRead = (s list set : List ℕ) → Framed s list set → ReadBack s list s
 abbrev pub OnlyFrames : Type 0
 OnlyFrames = (s : List ℕ) (end : ℕ) → frameOf s ≡ frame.ListEnds end → Framed s (frameCall s end .list) (frameCall s end .set)
 
--- the program lends `print_frame` a text buffer that holds all that is printed (docs/DECISIONS.md, L9)
-abbrev pub Fits : Type 0
-Fits = (s : List ℕ) → length (printed s) ≤ 135168
-
 -- all of them
 pub record Theorems : Type 0 where
   pub frames-read : FramesRead
   pub only-frames : OnlyFrames
-  pub fits : Fits

@@ -78,11 +78,18 @@ fn report(input: &[u8], end: usize, text: &mut [u8]) -> usize
 }
 
 // What the stream program prints for its input, as far as it fits into the text; the number of bytes in all.
-pub fn print_frame(input: &[u8], text: &mut [u8]) -> usize
-    ensures { λ r. ⌜ Spec.Printed (now (input .entry)) (now (text .entry)) r (now (text .exit)) ⌝ }
+fn print_into(input: &[u8], text: &mut [u8]) -> usize
+    ensures { λ r. ⌜ Wrote (now (text .entry)) 0 (Spec.printed (now (input .entry))) r (now (text .exit)) ⌝ }
 {
     match frame_of(input) {
         Frame::Bad => text::put_line(text, 0, Answer::refused(24, 0)),
         Frame::ListEnds(end) => report(input, end, text),
     }
+}
+
+// What the stream program prints for its input, and how many bytes that is. The text always fits: a program lends this very array.
+pub fn print_frame(input: &[u8], text: &mut [u8; 135168]) -> usize
+    ensures { λ r. ⌜ Spec.Printed (now (input .entry)) (now (text .entry)) r (now (text .exit)) ⌝ }
+{
+    print_into(input, text)
 }

@@ -10,7 +10,7 @@ fn first(s: &[u8], n: usize) -> &[u8] {
     &s[start..n]
 }
 
-// One byte more than a frame may have, so that a longer input is seen; and room for the text of the longest stream.
+// One byte more than a frame may have, so that a longer input is seen; and the array that print_frame wants for the text.
 fn run(input: &mut [u8; 65537], text: &mut [u8; 135168]) {
     let n = io::read_full(libc::STDIN_FILENO, input);
     let size = frame::print_frame(first(input, n), text);
