@@ -9,7 +9,6 @@ use native.Mathlib.Omega.{arith}
 use borrow.Author.Tests.{ltb-false, eqb-true, eqb-false}
 use lib.ListN.{length}
 use lib.Dec.{ltb, eqb}
-use Rattle.answer.specs.declared.Answer.{Answer}
 use Rattle.answer.specs.If.{if_then_else_}
 use Rattle.dataset.specs.Bytes.{num16, num32, tagAt, vrAt}
 use Rattle.dataset.specs.Vr.{formOf, oneOf, OB, SQ}
@@ -20,8 +19,8 @@ use Rattle.dataset.specs.declared.vr.Form.the-variants.{Short, Long, Nei
 use Rattle.dataset.proofs.Bools.{choose, and-right, both, neither, not-false, not-true}
 
 -- a refusal that a header at `at` gives
-abbrev pub FaultAt : (at : ℕ) → Answer → Type 0
-FaultAt at f = (2 ≤ f .number) × (f .number ≤ 8) × (f .position ≡ at) × (f .length ≡ 0)
+abbrev pub RefusedAt : (at number position : ℕ) → Type 0
+RefusedAt at number position = (2 ≤ number) × (number ≤ 8) × (position ≡ at)
 
 -- the end of an extent: "filled exactly", or closed by a delimiter
 pub record EndAt (d : List ℕ) (delimiter : ℕ) (delimited : Bool) (stop at next : ℕ) : Type 0 where
@@ -41,7 +40,7 @@ pub record ItemSpan (d : List ℕ) (stop at start end : ℕ) (delimited : Bool) 
   pub extent : HeaderExtent (num32 d (at + 4)) stop start end delimited
 
 abbrev pub ElementFacts : List ℕ → (delimited : Bool) (left stop at least : ℕ) → ElementHeader → Type 0
-ElementFacts d delimited left stop at least (ElementHeader.refused f) = FaultAt at f
+ElementFacts d delimited left stop at least (ElementHeader.refused number position) = RefusedAt at number position
 ElementFacts d delimited left stop at least (ElementHeader.ends next) = EndAt d itemDelimiter delimited stop at next
 ElementFacts d delimited left stop at least (ElementHeader.value tag vr start end) = (least ≤ tag) × ValueAt d stop at tag vr start end
 ElementFacts d delimited left stop at least (ElementHeader.sequence tag start end inner) =
@@ -51,7 +50,7 @@ ElementFacts d delimited left stop at least (ElementHeader.fragments tag start) 
     × (num32 d (at + 8) ≡ undefined)
 
 abbrev pub ItemFacts : List ℕ → (inSequence delimited : Bool) (stop at : ℕ) → ItemHeader → Type 0
-ItemFacts d inSequence delimited stop at (ItemHeader.refused f) = FaultAt at f
+ItemFacts d inSequence delimited stop at (ItemHeader.refused number position) = RefusedAt at number position
 ItemFacts d inSequence delimited stop at (ItemHeader.ends next) = EndAt d sequenceDelimiter delimited stop at next
 ItemFacts d inSequence delimited stop at (ItemHeader.item start end inner) = ItemSpan d stop at start end inner × (inSequence ≡ false → inner ≡ false)
 

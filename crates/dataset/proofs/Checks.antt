@@ -1,15 +1,18 @@
 -- Rules by which `search` follows a chain of checks, `if b then x else if ..`, from the tests that a place of the code has. Assumes
 -- nothing.
-use Prim.Native.Nat.{ℕ, _+_, _%_, _<_, _≤_}
+use Prim.Native.Nat.{ℕ, _+_, _-_, _%_, _<_, _≤_}
 use mathlib.Core.List.{List}
 use mathlib.Core.Path.{_≡_, sym, _∙_}
 use mathlib.Core.Bool.{Bool, true, false, not, _&&_, _||_}
 use lib.Dec.{ltb, eqb}
-use borrow.Author.Tests.{lt-ltb, le-ltb, eq-eqb, ne-eqb}
+use native.Mathlib.Omega.{arith}
+use lib.ListN.{length}
+use borrow.Author.Tests.{ltb-false, lt-ltb, le-ltb, eq-eqb, ne-eqb}
 use Rattle.answer.specs.If.{if_then_else_}
-use Rattle.dataset.specs.Header.{ElementHeader, ItemHeader, refusal, longAt, byForm, vrOnAt, valueBy, itemBy}
+use Rattle.dataset.specs.Header.{ElementHeader, ItemHeader, outside, longAt, byForm, vrOnAt, valueBy, itemBy}
 use Rattle.dataset.specs.Bytes.{num16, num32, tagAt, vrAt}
 use Rattle.dataset.specs.Vr.{formOf}
+use Rattle.dataset.proofs.Bools.{neither}
 use Rattle.dataset.specs.declared.vr.Form.{Form}
 use Rattle.dataset.specs.declared.vr.Form.the-variants.{Short, Long, Neither}
 
@@ -86,7 +89,7 @@ unfolding vrOnAt byForm
 long-form d tag left stop at v f z e q s w = rw (← e, ← q, s) w
 
 pub no-form : (d : List ℕ) (tag left stop at v : ℕ) (f : Form) (z : ElementHeader) → v ≡ vrAt d at → f ≡ formOf v → f ≡ Neither
-    → z ≡ ElementHeader.refused (refusal at 5) → z ≡ vrOnAt d tag left stop at
+    → z ≡ ElementHeader.refused 5 at → z ≡ vrOnAt d tag left stop at
 unfolding vrOnAt byForm
 no-form d tag left stop at v f z e q s w = rw (← e, ← q, s) w
 
@@ -106,3 +109,25 @@ pub ruleset handed = (long-value, tag-on, item-on)
 -- FFFFFFFF is odd
 pub undefined-odd : (len : ℕ) → len ≡ 0xFFFFFFFF → eqb (len % 2) 1 ≡ true
 undefined-odd len h = rw h
+
+-- ---- an extent that lies inside the data and does not end before `at`: b is the test of that
+module _ (d : List ℕ) (stop at : ℕ) (b : Bool) (e : b ≡ outside d stop at) (h : b ≡ false) where
+  inside : (ltb (length d) stop ≡ false) × (ltb stop at ≡ false)
+  inside = neither (ltb (length d) stop) (ltb stop at) (sym e ∙ h)
+
+  pub inside-at : at ≤ stop
+  inside-at = ltb-false stop at (inside .1)
+
+  pub inside-stop : stop ≤ length d
+  inside-stop = ltb-false (length d) stop (inside .0)
+
+  pub header-inside : 8 ≤ stop - at → at + 8 ≤ stop
+  header-inside k = omega (arith, inside-at)
+
+  pub header-length : 8 ≤ stop - at → at + 4 + 4 ≤ length d
+  header-length k = omega (arith, inside-at, inside-stop)
+
+  pub header-start : (n : ℕ) → 8 ≤ stop - at → n ≤ 8 → at + n ≤ length d
+  header-start n k l = omega (arith, inside-at, inside-stop)
+
+pub ruleset within = (inside-at, inside-stop, header-inside, header-length, header-start)

@@ -63,7 +63,7 @@ module _ (left : ℕ) (h : levels ≤ left) where
 
   fragment-rest : (parts parts′ : ℕ → Reading (List Span)) (p : ItemHeader) → ((i : ℕ) → parts i ≡ parts′ i) → byFragment parts p ≡ byFragment parts′ p
   unfolding byFragment
-  fragment-rest parts parts′ (ItemHeader.refused f) g = refl
+  fragment-rest parts parts′ (ItemHeader.refused number position) g = refl
   fragment-rest parts parts′ (ItemHeader.ends next) g = refl
   fragment-rest parts parts′ (ItemHeader.item start end inner) g = rw (g end)
 
@@ -81,7 +81,7 @@ module _ (left : ℕ) (h : levels ≤ left) where
       → ((inner : Bool) (end i : ℕ) → elements inner end i ≡ elements′ inner end i) → ((i : ℕ) → items i ≡ items′ i)
       → byItem elements items at p ≡ byItem elements′ items′ at p
   unfolding byItem
-  item-rest elements elements′ items items′ at (ItemHeader.refused f) e g = refl
+  item-rest elements elements′ items items′ at (ItemHeader.refused number position) e g = refl
   item-rest elements elements′ items items′ at (ItemHeader.ends next) e g = refl
   item-rest elements elements′ items items′ at (ItemHeader.item start end inner) e g =
       rw (e inner end start) (then-rest (elements′ inner end start) items items′ at g)
@@ -96,7 +96,7 @@ module _ (left : ℕ) (h : levels ≤ left) where
       → ((inner : Bool) (end i : ℕ) → items inner end i ≡ items′ inner end i) → ((i : ℕ) → parts i ≡ parts′ i)
       → byHeader items parts at p ≡ byHeader items′ parts′ at p
   unfolding byHeader
-  one-rest items items′ parts parts′ at (ElementHeader.refused f) e g = refl
+  one-rest items items′ parts parts′ at (ElementHeader.refused number position) e g = refl
   one-rest items items′ parts parts′ at (ElementHeader.ends next) e g = refl
   one-rest items items′ parts parts′ at (ElementHeader.value tag vr start end) e g = refl
   one-rest items items′ parts parts′ at (ElementHeader.sequence tag start end inner) e g = rw (e inner end start)

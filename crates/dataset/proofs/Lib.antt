@@ -1,5 +1,5 @@
-pub mod Checks
 pub mod Bools
+pub mod Checks
 pub mod Bounds
 pub mod Bounded
 pub mod Within

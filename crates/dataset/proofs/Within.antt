@@ -6,10 +6,12 @@ use mathlib.Core.Bool.{Bool, true, false}
 use mathlib.Core.List.{List}
 use native.Mathlib.Omega.{arith}
 use Rattle.answer.specs.declared.Answer.{Answer}
+use Rattle.answer.specs.Answer.{refused}
+use Rattle.answer.proofs.Refusals.{position-kept}
 use Rattle.dataset.specs.Header.{ElementHeader, ItemHeader}
 use Rattle.dataset.specs.Tree.{Span, Elements, Items, tagOf}
 use Rattle.dataset.specs.Reading.{Reading, fault, read, _>>=_, One, ended, element, Headers, byHeader, byOne, byItem, byFragment, fragmentsBy, elementsBy, itemsBy, fragmentsAt, itemsAt, oneAt, deeper}
-use Rattle.dataset.proofs.Bounds.{FaultAt}
+use Rattle.dataset.proofs.Bounds.{RefusedAt}
 use Rattle.dataset.proofs.Bounded.{ElementHeaderIn, ItemHeaderIn, Bounded}
 
 -- ---- where faults lie, and what follows what was read
@@ -47,8 +49,10 @@ then-one lo hi lo′ hi′ (read a n) k l u w g = g a n (w .0) (w .1)
 -- ---- one step, by what stands there
 module _ (stop at : ℕ) (z : at ≤ stop) where
   -- a refusal of a header in the extent lies in it
-  refuses : (f : Answer) → FaultAt at f → FaultIn at stop f
-  refuses f h = record { least = h .0; most = h .1; order = omega (arith, h .2); inside = omega (arith, h .2); nothing = h .3 }
+  refuses : (number position : ℕ) → RefusedAt at number position → FaultIn at stop (refused number position)
+  refuses number position h =
+      let p = position-kept number position (omega (arith, h .0)) in
+      record { least = h .0; most = h .1; order = omega (arith, h .2, p); inside = omega (arith, h .2, p); nothing = refl }
 
   abbrev Parts : (ℕ → Reading (List Span)) → Type 0
   Parts parts = (i : ℕ) → at < i → i ≤ stop → Within i stop (parts i)
@@ -58,7 +62,7 @@ module _ (stop at : ℕ) (z : at ≤ stop) where
 
   fragment-within : (parts : ℕ → Reading (List Span)) (p : ItemHeader) → ItemHeaderIn stop at p → Parts parts → Within at stop (byFragment parts p)
   unfolding byFragment
-  fragment-within parts (ItemHeader.refused f₀) h f = refuses f₀ h
+  fragment-within parts (ItemHeader.refused number position) h f = refuses number position h
   fragment-within parts (ItemHeader.ends next) h f = h
   fragment-within parts (ItemHeader.item start end delimited) h f =
       then-within end stop at stop (parts end) _ (omega arith) (omega arith) (f end (omega arith) (h .2)) λ a n l u. omega arith
@@ -66,7 +70,7 @@ module _ (stop at : ℕ) (z : at ≤ stop) where
   pub header-within : (items : Bool → ℕ → ℕ → Reading Items) (parts : ℕ → Reading (List Span)) (p : ElementHeader) → ElementHeaderIn stop at p
       → Inner items → Parts parts → OneIn at stop (byHeader items parts at p)
   unfolding byHeader
-  header-within items parts (ElementHeader.refused f₀) h f g = refuses f₀ h
+  header-within items parts (ElementHeader.refused number position) h f g = refuses number position h
   header-within items parts (ElementHeader.ends next) h f g = h
   header-within items parts (ElementHeader.value tag vr start end) h f g = h
   header-within items parts (ElementHeader.sequence tag start end delimited) h f g =
@@ -85,7 +89,7 @@ module _ (stop at : ℕ) (z : at ≤ stop) where
   item-within : (elements : Bool → ℕ → ℕ → Reading Elements) (items : ℕ → Reading Items) (p : ItemHeader) → ItemHeaderIn stop at p
       → Inner elements → ((i : ℕ) → at < i → i ≤ stop → Within i stop (items i)) → Within at stop (byItem elements items at p)
   unfolding byItem
-  item-within elements items (ItemHeader.refused f₀) h f g = refuses f₀ h
+  item-within elements items (ItemHeader.refused number position) h f g = refuses number position h
   item-within elements items (ItemHeader.ends next) h f g = h
   item-within elements items (ItemHeader.item start end delimited) h f g =
       then-within start end at stop (elements delimited end start) _ (omega arith) (omega arith) (f delimited end start (h .0) (h .1) (h .2)) λ a n l u.

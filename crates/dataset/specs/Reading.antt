@@ -10,7 +10,7 @@ use lib.Dec.{ltb}
 use Rattle.answer.specs.declared.Answer.{Answer}
 use Rattle.answer.specs.Answer as answer
 use Rattle.answer.specs.If.{if_then_else_}
-use Rattle.dataset.specs.Header.{ElementHeader, ItemHeader, refusal, elementAt, itemAt}
+use Rattle.dataset.specs.Header.{ElementHeader, ItemHeader, elementAt, itemAt}
 use Rattle.dataset.specs.Tree.{Span, span, Element, value, sequence, fragments, Elements, none, and, Items, last, item, tagOf, vrOf, spanOf}
 use Rattle.dataset.specs.declared.reading.OneOutcome.{OneOutcome}
 use Rattle.dataset.specs.declared.reading.OneOutcome.the-variants as one
@@ -45,7 +45,7 @@ explicit = record { element = elementAt; item = itemAt }
 -- 8 bytes, is no part of the value.
 unfoldable pub byHeader : (items : (delimited : Bool) (stop start : ℕ) → Reading Items) (parts : (start : ℕ) → Reading (List Span)) (at : ℕ)
     → ElementHeader → Reading One
-byHeader items parts at (ElementHeader.refused f) = fault f
+byHeader items parts at (ElementHeader.refused number position) = fault (answer.refused number position)
 byHeader items parts at (ElementHeader.ends next) = read ended next
 byHeader items parts at (ElementHeader.value tag vr start stop) = read (element (value at tag vr (span start stop))) stop
 byHeader items parts at (ElementHeader.sequence tag start stop delimited) = do
@@ -65,7 +65,7 @@ byOne elements (element e, next) = do
 -- Items are one item and the rest. Handed in are the readers of an item's elements and of the rest.
 unfoldable pub byItem : (elements : (delimited : Bool) (stop start : ℕ) → Reading Elements) (items : (next : ℕ) → Reading Items) (at : ℕ)
     → ItemHeader → Reading Items
-byItem elements items at (ItemHeader.refused f) = fault f
+byItem elements items at (ItemHeader.refused number position) = fault (answer.refused number position)
 byItem elements items at (ItemHeader.ends next) = read last next
 byItem elements items at (ItemHeader.item start stop delimited) = do
   (inside, next) ← elements delimited stop start
@@ -74,7 +74,7 @@ byItem elements items at (ItemHeader.item start stop delimited) = do
 
 -- Fragments are one fragment and the rest: "Nothing inside a fragment .. is examined." (2.19). Handed in is the reader of the rest.
 unfoldable pub byFragment : (parts : (next : ℕ) → Reading (List Span)) → ItemHeader → Reading (List Span)
-byFragment parts (ItemHeader.refused f) = fault f
+byFragment parts (ItemHeader.refused number position) = fault (answer.refused number position)
 byFragment parts (ItemHeader.ends next) = read [] next
 byFragment parts (ItemHeader.item start stop delimited) = do
   (rest, after) ← parts stop
@@ -95,13 +95,13 @@ module _ (h : Headers) where
   -- `left` is 16 less the level: of the data set that is read, or at which the sequence or the OB stands. Fragments have no levels below
   -- them: there it only says at which level the OB stands, and nothing is read by it.
   unfoldable pub fragmentsBy : ℕ → List ℕ → (left stop at : ℕ) → Reading (List Span)
-  fragmentsBy zero d left stop at = fault (refusal at 0)
+  fragmentsBy zero d left stop at = fault (answer.refused 0 at)
   fragmentsBy (suc n) d left stop at = byFragment (fragmentsBy n d left stop) (h .item d false true stop at)
 
   -- "those in the items of a sequence at level n are at level n + 1" (2.3); tag order starts anew in each item
   unfoldable mutual
     pub elementsBy : ℕ → List ℕ → (delimited : Bool) (left stop at least : ℕ) → Reading Elements
-    elementsBy zero d delimited left stop at least = fault (refusal at 0)
+    elementsBy zero d delimited left stop at least = fault (answer.refused 0 at)
     elementsBy (suc n) d delimited left stop at least =
         byHeader
         (λ inner end start. itemsBy n d inner left end start)
@@ -111,7 +111,7 @@ module _ (h : Headers) where
         >>= byOne (λ next above. elementsBy n d delimited left stop next above)
 
     pub itemsBy : ℕ → List ℕ → (delimited : Bool) (left stop at : ℕ) → Reading Items
-    itemsBy zero d delimited left stop at = fault (refusal at 0)
+    itemsBy zero d delimited left stop at = fault (answer.refused 0 at)
     itemsBy (suc n) d delimited left stop at =
         byItem
         (λ inner end start. elementsBy n d inner (deeper left) end start 0)

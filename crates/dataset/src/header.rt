@@ -2,17 +2,19 @@
 use crate::bytes;
 use crate::vr;
 use crate::vr::Form;
-use answer::Answer;
 ghost use mathlib.Core.Path.{_≡_};
 ghost use Prim.Native.Nat.{_+_, _≤_};
 ghost use lib.ListN.{length};
 ghost use Rattle.dataset.specs.Header as spec;
-ghost use Rattle.dataset.specs.Header.{elementCase, itemCase, refusal, badLength, tooDeep, undefinedBy, definedBy, valueBy, longAt, vrOnAt, endsAt, closedBy, elementAt, itemBy, itemAt};
+ghost use Rattle.dataset.specs.Header.{elementCase, itemCase, outside, badLength, tooDeep, undefinedBy, definedBy, valueBy, longAt, vrOnAt, endsAt, closedBy, elementAt, itemBy, itemAt};
 
 // What stands in an element's place.
 pub enum ElementHeader {
-    // refused, at this header
-    Refused(Answer),
+    // refused, with this number, at this header
+    Refused {
+        number: u8,
+        position: usize,
+    },
     // the data set ends here; what follows it is at this offset
     End(usize),
     // a value that is not looked into, from start to end
@@ -38,8 +40,11 @@ pub enum ElementHeader {
 
 // What stands in an item's or a fragment's place.
 pub enum ItemHeader {
-    // refused, at this header
-    Refused(Answer),
+    // refused, with this number, at this header
+    Refused {
+        number: u8,
+        position: usize,
+    },
     // the items or fragments end here; what follows them is at this offset
     End(usize),
     // from start up to end, or to an item delimiter before end
@@ -60,16 +65,22 @@ const SEQUENCE_DELIMITER: u32 = 0xFFFEE0DD;
 
 // The refusal of the header at `at`, in an element's place.
 fn refused_element(at: usize, number: u8) -> ElementHeader
-    ensures { λ r. ⌜ elementCase r ≡ spec.ElementHeader.refused (refusal at number) ⌝ }
+    ensures { λ r. ⌜ elementCase r ≡ spec.ElementHeader.refused number at ⌝ }
 {
-    ElementHeader::Refused(Answer::refused(number, at))
+    ElementHeader::Refused {
+        number,
+        position: at,
+    }
 }
 
 // The refusal of the header at `at`, in the place of an item or a fragment.
 fn refused_item(at: usize, number: u8) -> ItemHeader
-    ensures { λ r. ⌜ itemCase r ≡ spec.ItemHeader.refused (refusal at number) ⌝ }
+    ensures { λ r. ⌜ itemCase r ≡ spec.ItemHeader.refused number at ⌝ }
 {
-    ItemHeader::Refused(Answer::refused(number, at))
+    ItemHeader::Refused {
+        number,
+        position: at,
+    }
 }
 
 // A value, or a sequence of defined length.
@@ -152,6 +163,13 @@ fn value_by(
     defined_by(tag, vr, start, start + len)
 }
 
+// Whether the extent does not lie inside the data, or ends before `at`.
+fn is_outside(d: &[u8], stop: usize, at: usize) -> bool
+    ensures { λ r. ⌜ r ≡ outside (now (d .entry)) stop at ⌝ }
+{
+    (d.len() < stop) | (stop < at)
+}
+
 // Whether an extent of defined length ends at `at`.
 fn ends_at(delimited: bool, stop: usize, at: usize) -> bool
     ensures { λ r. ⌜ r ≡ endsAt delimited stop at ⌝ }
@@ -214,10 +232,7 @@ pub fn header(
 ) -> ElementHeader
     ensures { λ r. ⌜ elementCase r ≡ elementAt (now (d .entry)) delimited left stop at least ⌝ }
 {
-    if d.len() < stop {
-        return refused_element(at, 2);
-    }
-    if stop < at {
+    if is_outside(d, stop, at) {
         return refused_element(at, 2);
     }
     if ends_at(delimited, stop, at) {
@@ -278,10 +293,7 @@ pub fn item_header(
 ) -> ItemHeader
     ensures { λ r. ⌜ itemCase r ≡ itemAt (now (d .entry)) in_sequence delimited stop at ⌝ }
 {
-    if d.len() < stop {
-        return refused_item(at, 2);
-    }
-    if stop < at {
+    if is_outside(d, stop, at) {
         return refused_item(at, 2);
     }
     if ends_at(delimited, stop, at) {

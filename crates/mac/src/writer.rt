@@ -128,7 +128,10 @@ fn write_fragments(
     let mut to = onto;
     loop {
         match header::item_header(d, false, true, stop, at) {
-            ItemHeader::Refused(fault) => return Written::Refused(fault),
+            ItemHeader::Refused { number, position } => return Written::Refused(Answer::refused(
+                number,
+                position,
+            )),
             ItemHeader::End(next) => {
                 output::put_sequence_delimiter(out, to);
                 return Written::Past {
@@ -164,7 +167,10 @@ fn write_element(
     ensures { λ r. ⌜ ElementWalk (now (d .entry)) left stop at (elementCase h) to r (now (out .entry)) (now (out .exit)) ⌝ }
 {
     match h {
-        ElementHeader::Refused(fault) => OneWritten::Refused(fault),
+        ElementHeader::Refused { number, position } => OneWritten::Refused(Answer::refused(
+            number,
+            position,
+        )),
         ElementHeader::End(next) => OneWritten::End(next),
         ElementHeader::Value {
             tag,
@@ -286,7 +292,10 @@ fn write_items(
     let mut to = onto;
     loop {
         match header::item_header(d, true, delimited, stop, at) {
-            ItemHeader::Refused(fault) => return Written::Refused(fault),
+            ItemHeader::Refused { number, position } => return Written::Refused(Answer::refused(
+                number,
+                position,
+            )),
             ItemHeader::End(next) => {
                 output::put_sequence_delimiter(out, to);
                 return Written::Past {

@@ -17,11 +17,14 @@ loop-holds c = search steps.fragments-start
 item-header-requires : tie.Need-item-header-requires Inv-loop μ-loop
 item-header-requires c κs = search needs
 
-enum-known-fault : tie.Need-enum-known-fault Inv-loop μ-loop
-enum-known-fault c = search needs
+enum-known-number : tie.Need-enum-known-number Inv-loop μ-loop
+enum-known-number c = search needs
 
 same-length : tie.Need-same-length Inv-loop μ-loop
 same-length c = search needs
+
+refused-requires : tie.Need-refused-requires Inv-loop μ-loop
+refused-requires c κs = search needs
 
 returns : tie.Need-returns Inv-loop μ-loop
 returns c = search steps.fragments-refused
@@ -32,8 +35,8 @@ enum-known-next c = search needs
 put-sequence-delimiter-requires : tie.Need-put-sequence-delimiter-requires Inv-loop μ-loop
 put-sequence-delimiter-requires c κs = search needs
 
-add-t17 : tie.Need-add-t17 Inv-loop μ-loop
-add-t17 c = search needs
+add-t19 : tie.Need-add-t19 Inv-loop μ-loop
+add-t19 c = search needs
 
 same-length-2 : tie.Need-same-length-2 Inv-loop μ-loop
 same-length-2 c = search needs
@@ -70,12 +73,13 @@ write-fragments-spec =
     μ-loop
     loop-holds
     item-header-requires
-    enum-known-fault
+    enum-known-number
+    refused-requires
     same-length
     returns
     enum-known-next
     put-sequence-delimiter-requires
-    add-t17
+    add-t19
     same-length-2
     returns-2
     enum-known-start
