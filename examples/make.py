@@ -115,7 +115,8 @@ def main():
         signer = [
             number(0x04000005, 1),  # MAC ID Number
             text(0x04000100, "UI", "2.25.314159265358979323846264338327950288419"),  # Digital Signature UID
-            text(0x04000105, "DT", time.strftime("%Y%m%d%H%M%S.000000+0000", time.gmtime())),  # Digital Signature DateTime
+            # Digital Signature DateTime: a day on, when the certificate is valid in every time zone
+            text(0x04000105, "DT", time.strftime("%Y%m%d%H%M%S.000000+0000", time.gmtime(time.time() + 86400))),
             text(0x04000110, "CS", "X509_1993_SIG"),  # Certificate Type
         ]
         signed = stream([element for element in STUDY if element[0] in SIGNED] + signer)

@@ -106,7 +106,10 @@ void eddyplume_signature_check(const uint8_t *uid, size_t uid_len, bool numbered
  */
 void eddyplume_lookup(const uint8_t *data, size_t data_len, uint32_t tag, uint64_t answer[3], uint64_t part[3]);
 
-/* The SHA-256 digest of a message, into digest. answer: 0, or 25, which writes no digest. */
+/*
+ * The SHA-256 digest of a message, into digest. answer: 0, or 25. Where 25 is answered no byte of digest is written, not even zeros: it keeps
+ * what stood there.
+ */
 void eddyplume_sha256(const uint8_t *message, size_t message_len, uint8_t digest[32], uint64_t answer[3]);
 
 /*
@@ -115,7 +118,8 @@ void eddyplume_sha256(const uint8_t *message, size_t message_len, uint8_t digest
  *
  * start   the running digest of no bytes
  * feed    feeds bytes; 25 leaves the running digest as it is
- * finish  the digest of all bytes so far; the running digest stays as it is and can be fed on; 25 writes no digest
+ * finish  the digest of all bytes so far; the running digest stays as it is and can be fed on; where 25 is answered no byte of digest is
+ *         written, as for eddyplume_sha256
  */
 void eddyplume_digest_start(uint32_t words[8], uint8_t waiting[64], uint64_t counts[2]);
 void eddyplume_digest_feed(uint32_t words[8], uint8_t waiting[64], uint64_t counts[2],
