@@ -22,7 +22,7 @@ use Rattle.dataset.proofs.Bools.{choose, and-right, both, neither, not-
 abbrev pub RefusedAt : (at number position : ℕ) → Type 0
 RefusedAt at number position = (2 ≤ number) × (number ≤ 8) × (position ≡ at)
 
--- the end of an extent: "filled exactly", or closed by a delimiter
+-- the end of an extent: filled exactly, or ended by a delimiter
 pub record EndAt (d : List ℕ) (delimiter : ℕ) (delimited : Bool) (stop at next : ℕ) : Type 0 where
   pub order : at ≤ next
   pub inside : next ≤ stop

@@ -107,7 +107,7 @@ size-passes Long d tag vr left stop at start n z h s e =
     (skip (not (eqb (num16 d (at + 6)) 0)) (ElementHeader.refused 6 at) _ z (not-f (eqb (num16 d (at + 6)) 0) (eq-eqb (num16 d (at + 6)) 0 (s .1))) (rw (← a, b) e))
 size-passes Neither d tag vr left stop at start n z h s e = absurd s
 
--- "length odd, or FFFFFFFF on .., 7"
+-- 2.11g
 even-defined : (n : ℕ) → n % 2 ≡ 0 → (eqb n undefined ≡ false) × (eqb (n % 2) 1 ≡ false)
 even-defined n h = (ne-eqb n undefined λ e. omega arith, ne-eqb (n % 2) 1 λ e. omega arith)
 

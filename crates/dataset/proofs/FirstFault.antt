@@ -9,7 +9,6 @@ use lib.ListN.{length, getD}
 use lib.Seq.{getD-take}
 use lib.Dec.{ltb}
 use borrow.Author.Tests.{ltb-true, ltb-false}
-use Rattle.answer.specs.declared.Answer.{Answer}
 use Rattle.dataset.specs.Bytes.{num16, num32, tagAt, vrAt}
 use Rattle.dataset.specs.Vr.{formOf}
 use Rattle.dataset.specs.Header.{ElementHeader, ItemHeader, closedBy, longAt, byForm, vrOnAt, elementAt, itemAt}

@@ -7,7 +7,6 @@ use native.Mathlib.Omega.{arith}
 use lib.ListN.{length}
 use lib.Dec.{ltb}
 use borrow.Author.Tests.{ltb-false, ltb-true}
-use Rattle.answer.specs.declared.Answer.{Answer}
 use Rattle.dataset.specs.Bytes.{num32}
 use Rattle.dataset.specs.Header.{ElementHeader, ItemHeader, itemDelimiter, elementAt, itemAt}
 use Rattle.dataset.specs.Tree.{Span, Elements, Items, tagOf}

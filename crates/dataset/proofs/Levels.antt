@@ -1,20 +1,22 @@
 -- The levels left: they fall from a sequence to its items, and a number above 16 counts as 16. Assumes nothing.
-use Prim.Native.Nat.{ℕ, zero, suc, _+_, _-_, _≤_, _<_}
-use mathlib.Core.Path.{_≡_, refl, sym, _∙_}
+use Prim.Native.Nat.{ℕ, zero, suc, _-_, _≤_, _<_}
+use mathlib.Core.Path.{_≡_, refl}
 use mathlib.Core.Bool.{Bool, true, false}
 use mathlib.Core.List.{List}
 use native.Mathlib.Omega.{arith}
-use lib.Dec.{ltb, eqb}
+use lib.Dec.{ltb}
 use borrow.Author.Tests.{ltb-true, ltb-false, lt-ltb, le-ltb, ne-eqb}
 use Rattle.answer.specs.If.{if_then_else_}
 use Rattle.dataset.specs.Bytes.{tagAt, vrAt}
 use Rattle.dataset.specs.Vr.{formOf}
-use Rattle.dataset.specs.Header.{ElementHeader, ItemHeader, tooDeep, valueBy, longAt, byForm, vrOnAt, elementAt, itemAt}
-use Rattle.dataset.specs.Tree.{Span, Elements, Items, item}
-use Rattle.dataset.specs.Reading.{Reading, fault, read, _>>=_, explicit, byHeader, byItem, byFragment, fragmentsBy, elementsBy, itemsBy, fragmentsAt, itemsAt, oneAt, levels, deeper}
+use Rattle.dataset.specs.Header.{ItemHeader, tooDeep, valueBy, longAt, byForm, vrOnAt, elementAt, itemAt}
+use Rattle.dataset.specs.Tree.{Elements, Items, item}
+use Rattle.dataset.specs.Reading.{Reading, fault, read, _>>=_, explicit, byItem, fragmentsBy, itemsBy, fragmentsAt, itemsAt, oneAt, levels, deeper}
 use Rattle.dataset.specs.Theorems.{LevelsCount}
 use Rattle.dataset.specs.declared.vr.Form.{Form}
 use Rattle.dataset.specs.declared.vr.Form.the-variants.{Short, Long, Neither}
+use Rattle.dataset.proofs.Bounded.{explicit-bounded}
+use Rattle.dataset.proofs.Unfolding.{fragment-same, header-same}
 
 -- ---- what the code of `deeper` answers
 pub deeper-over : (left : ℕ) → levels < left → 15 ≡ deeper left
@@ -61,16 +63,11 @@ module _ (left : ℕ) (h : levels ≤ left) where
       go true e = refl
       go false e = let k = ltb-false levels left e in omega arith
 
-  fragment-rest : (parts parts′ : ℕ → Reading (List Span)) (p : ItemHeader) → ((i : ℕ) → parts i ≡ parts′ i) → byFragment parts p ≡ byFragment parts′ p
-  unfolding byFragment
-  fragment-rest parts parts′ (ItemHeader.refused number position) g = refl
-  fragment-rest parts parts′ (ItemHeader.ends next) g = refl
-  fragment-rest parts parts′ (ItemHeader.item start end inner) g = rw (g end)
-
   same-fragments : (n : ℕ) (d : List ℕ) (stop at : ℕ) → fragmentsBy explicit n d left stop at ≡ fragmentsBy explicit n d levels stop at
   unfolding fragmentsBy
   same-fragments zero d stop at = refl
-  same-fragments (suc n) d stop at = fragment-rest _ _ (itemAt d false true stop at) λ i. same-fragments n d stop i
+  same-fragments (suc n) d stop at =
+      fragment-same stop at _ _ (itemAt d false true stop at) (explicit-bounded .item-in d false true stop at) λ i p q. same-fragments n d stop i
 
   then-rest : (p : Reading Elements) (items items′ : ℕ → Reading Items) (at : ℕ) → ((i : ℕ) → items i ≡ items′ i)
       → (do (inside, next) ← p; (rest, after) ← items next; read (item at inside rest) after) ≡ (do (inside, next) ← p; (rest, after) ← items′ next; read (item at inside rest) after)
@@ -92,21 +89,11 @@ module _ (left : ℕ) (h : levels ≤ left) where
   same-items (suc n) d delimited stop at =
       item-rest _ _ _ _ at (itemAt d true delimited stop at) (λ inner end i. rw same-deeper) λ i. same-items n d delimited stop i
 
-  one-rest : (items items′ : Bool → ℕ → ℕ → Reading Items) (parts parts′ : ℕ → Reading (List Span)) (at : ℕ) (p : ElementHeader)
-      → ((inner : Bool) (end i : ℕ) → items inner end i ≡ items′ inner end i) → ((i : ℕ) → parts i ≡ parts′ i)
-      → byHeader items parts at p ≡ byHeader items′ parts′ at p
-  unfolding byHeader
-  one-rest items items′ parts parts′ at (ElementHeader.refused number position) e g = refl
-  one-rest items items′ parts parts′ at (ElementHeader.ends next) e g = refl
-  one-rest items items′ parts parts′ at (ElementHeader.value tag vr start end) e g = refl
-  one-rest items items′ parts parts′ at (ElementHeader.sequence tag start end inner) e g = rw (e inner end start)
-  one-rest items items′ parts parts′ at (ElementHeader.fragments tag start) e g = rw (g start)
-
 pub levels-count : LevelsCount
 unfolding oneAt itemsAt fragmentsAt
 levels-count d delimited left stop at least h = record {
   header = same-header left h d delimited stop at least;
   one = rw (same-header left h d delimited stop at least)
-      (one-rest left h _ _ _ _ at (elementAt d delimited levels stop at least) (λ inner end i. same-items left h (suc (end - i)) d inner end i)
-      λ i. same-fragments left h (suc (stop - i)) d stop i);
+      (header-same stop at _ _ _ _ (elementAt d delimited levels stop at least) (explicit-bounded .element-in d delimited levels stop at least)
+      (λ inner end i p q r. same-items left h (suc (end - i)) d inner end i) λ i p q. same-fragments left h (suc (stop - i)) d stop i);
 }

@@ -5,7 +5,6 @@ use mathlib.Core.Path.{_≡_, refl, ap, _∙_}
 use mathlib.Core.Bool.{Bool, true, false}
 use mathlib.Core.List.{List}
 use native.Mathlib.Omega.{arith}
-use Rattle.answer.specs.declared.Answer.{Answer}
 use Rattle.dataset.specs.Header.{ElementHeader, ItemHeader}
 use Rattle.dataset.specs.Tree.{Span, Elements, Items, tagOf}
 use Rattle.dataset.specs.Reading.{Reading, fault, read, _>>=_, One, ended, element, Headers, byHeader, byOne, byItem, byFragment, fragmentsBy, elementsBy, itemsBy, fragmentsAt, elementsAt, itemsAt, oneAt, deeper}
@@ -20,14 +19,14 @@ then-same lo hi (read a n) k k′ w g = g a n (w .0) (w .1)
 -- ---- one step, by what stands there
 module _ (stop at : ℕ) where
   -- readers that agree from here on read the same
-  fragment-same : (parts parts′ : ℕ → Reading (List Span)) (p : ItemHeader) → ItemHeaderIn stop at p
+  pub fragment-same : (parts parts′ : ℕ → Reading (List Span)) (p : ItemHeader) → ItemHeaderIn stop at p
       → ((i : ℕ) → at < i → i ≤ stop → parts i ≡ parts′ i) → byFragment parts p ≡ byFragment parts′ p
   unfolding byFragment
   fragment-same parts parts′ (ItemHeader.refused number position) h f = refl
   fragment-same parts parts′ (ItemHeader.ends next) h f = refl
   fragment-same parts parts′ (ItemHeader.item start end delimited) h f = rw (f end (omega arith) (h .2))
 
-  header-same : (items items′ : Bool → ℕ → ℕ → Reading Items) (parts parts′ : ℕ → Reading (List Span)) (p : ElementHeader) → ElementHeaderIn stop at p
+  pub header-same : (items items′ : Bool → ℕ → ℕ → Reading Items) (parts parts′ : ℕ → Reading (List Span)) (p : ElementHeader) → ElementHeaderIn stop at p
       → ((delimited : Bool) (end i : ℕ) → at < i → i ≤ end → end ≤ stop → items delimited end i ≡ items′ delimited end i)
       → ((i : ℕ) → at < i → i ≤ stop → parts i ≡ parts′ i)
       → byHeader items parts at p ≡ byHeader items′ parts′ at p

@@ -3,7 +3,6 @@ use Prim.Native.Nat.{ℕ}
 use mathlib.Core.Path.{_≡_, refl, sym, ap, _∙_}
 use mathlib.Core.List.{List}
 use lib.ListN.{length, getD}
-use Rattle.answer.specs.declared.Answer.{Answer}
 use Rattle.mac.specs.Result.{Result, Streamed}
 use Rattle.mac_theorems.specs.Calls.{EitherCall, setOf, roomOf, resultOf}
 use Rattle.mac_theorems.specs.Demand3.{written}
