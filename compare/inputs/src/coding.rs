@@ -200,7 +200,7 @@ mod tests {
     }
 
     #[test]
-    fn the_examples_of_01() {
+    fn the_examples_of_the_rules() {
         let inner = Element::bytes(0x0008_0100, b"SH", b"A1");
         let defined = Element::sequence(0x0040_A730, vec![item(vec![inner.clone()], false)], false);
         let mut bytes = vec![0x40, 0, 0x30, 0xA7, b'S', b'Q', 0, 0, 0x12, 0, 0, 0];

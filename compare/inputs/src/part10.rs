@@ -130,7 +130,7 @@ mod tests {
     }
 
     #[test]
-    fn meta_information_with_a_vr_that_01_refuses() {
+    fn meta_information_with_a_vr_that_the_rules_refuse() {
         let presentation_address = b"\x02\0\x26\0UR\0\0\x04\0\0\0host";
         let data = [0x08, 0, 0x60, 0, b'C', b'S', 0, 0];
         let behind = [&presentation_address[..], &data].concat();
