@@ -3,7 +3,7 @@
 use crate::list_mode;
 use crate::{Refusal, StreamAnswer};
 
-/// 11.1: "Its input is a frame of at most 65,536 bytes".
+/// 11.1: "Its standard input is a frame of at most 65,536 bytes".
 pub const MOST_INPUT: usize = 65_536;
 
 /// 11.2: "Its call is one of list mode; the output room is 65,536 bytes."

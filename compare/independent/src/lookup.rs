@@ -13,8 +13,8 @@ pub struct Lookup<'d> {
     pub length: usize,
     /// Where the part starts in the data.
     pub offset: usize,
-    /// The part itself. 3.1: "a sequence delimiter that ends the value is not in
-    /// it".
+    /// The part itself. 3.1: "the sequence delimiter that closes an element of
+    /// undefined length is not in it".
     pub value: &'d [u8],
     /// 3.3: "a yes or no that says if the tag was found".
     pub stands: bool,

@@ -65,7 +65,8 @@ pub struct Element<'d> {
     /// All bytes, from the tag to the end of the value; where the length is
     /// undefined, the closing sequence delimiter included.
     pub bytes: &'d [u8],
-    /// The value. 3.1: "a sequence delimiter that ends the value is not in it".
+    /// The value. 3.1: "the sequence delimiter that closes an element of undefined
+    /// length is not in it".
     pub value: &'d [u8],
     pub content: Content<'d>,
 }

@@ -100,7 +100,7 @@ impl RunningDigest {
     }
 
     /// Pads and gives the digest (FIPS 180-4, 5.1.1 and 6.2.2). 10.5: "Finishing one
-    /// that is not possible gives 25 and, for a digest, 32 bytes of zero."
+    /// that is not possible gives 25 and, as the digest, 32 bytes of zero."
     pub fn finish(self) -> Finished {
         if self.refused(0) {
             return Finished { number: 25, position: 0, length: 0, digest: [0; 32] };

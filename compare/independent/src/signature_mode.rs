@@ -92,7 +92,7 @@ fn mac_id_number<'d>(item: &DataSet<'d>) -> Option<&'d [u8]> {
 }
 
 /// 9.3 row 20: "there is no (4FFE,0001) with VR SQ, or none of its items has the
-/// signature item's number in a (0400,0005) with VR US and length 2"; 8.2: "The
+/// signature item's MAC ID Number in a (0400,0005) with VR US and length 2"; 8.2: "The
 /// parameters item is the first in (4FFE,0001) whose MAC ID Number, (0400,0005),
 /// equals the signature item's." Items without such a US are passed over (j).
 fn parameters_item<'t, 'd>(

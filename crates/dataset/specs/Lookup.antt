@@ -26,8 +26,8 @@ elementOf tag (and e rest) = if eqb (tagOf e) tag then some e else elementOf tag
 abbrev pub absent : Answer → (size : ℕ) → Found
 absent a size = record { answer = a; present = false; start = size; length = 0 }
 
--- 3.1: "the value of a tag at the top level, as a part of the data set that it was lent; a sequence delimiter that ends the value is not in
--- it", and a yes
+-- 3.1: "the value of a tag at the top level, as a part of the data set that it was lent; the sequence delimiter that closes an element of
+-- undefined length is not in it", and a yes
 abbrev pub present : (start end : ℕ) → Found
 present start end = record { answer = answer.accepted 0; present = true; start = start; length = end - start }
 

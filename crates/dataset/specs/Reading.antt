@@ -138,7 +138,7 @@ module _ (h : Headers) where
 abbrev pub sizeLimit : ℕ
 sizeLimit = 1048576
 
--- the reading of a whole data set, which "may have none". "A data set that is larger than 2.1 allows gives 1, and nothing of it is read." (2.21)
+-- the reading of a whole data set, which "may have none". "A data set that is larger than 2.1 allows gives 1, before 2 to 8." (2.21)
 unfoldable pub dataSet : List ℕ → Reading Elements
 dataSet d = if ltb sizeLimit (length d) then fault (answer.refused 1 0) else elementsAt explicit d false levels (length d) 0 0
 

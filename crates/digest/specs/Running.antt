@@ -63,7 +63,7 @@ feeding a s m =
     if accepts s (length m) then record { answer = accepted 0; running = fed a s m } else
     record { answer = refused 25 0; running = s }
 
--- 10.5: "Finishing one that is not possible gives 25 and, for a digest, 32 bytes of zero", as many as the digest has, and so does finishing
+-- 10.5: "Finishing one that is not possible gives 25 and, as the digest, 32 bytes of zero", as many as the digest has, and so does finishing
 -- one whose total is past the limit (docs/DECISIONS.md, D2). The answer's length is 0 (A3). The running digest comes back as it was (D4).
 unfoldable pub finishing : Algorithm → Running → Finished
 finishing a s =

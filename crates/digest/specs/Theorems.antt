@@ -1,5 +1,5 @@
 -- What holds of the definitions, stated here and proved in proofs/Theorems. docs/RULES.md, 13.3, of a digest: "after every feeding it is
--- FIPS 180-4's of all bytes fed".
+-- FIPS 180-4's of all bytes fed so far".
 -- Assumes nothing.
 use Prim.Native.Nat.{ℕ, _+_, _*_, _%_, _<_, _≤_}
 use mathlib.Core.Path.{_≡_}

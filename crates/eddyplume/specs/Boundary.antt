@@ -76,7 +76,8 @@ pub record LookedUp (f : Found) (answer part : List ℕ) : Type 0 where
   pub answers : answer ≡ answerWords (f .answer)
   pub parts : part ≡ flag (f .present) ∷ f .start ∷ f .length ∷ []
 
--- 12.2: "7.3 holds for every output in C, also for a digest. Where 25 is answered no byte of `digest` is written" (docs/DECISIONS.md, B1)
+-- 12.2: "What 7.3 says of a refused call holds for every output in C, also for a digest. Where 25 is answered no byte of `digest` is
+-- written" (docs/DECISIONS.md, B1)
 abbrev pub digestAfter : Answer → (digest before : List ℕ) → List ℕ
 digestAfter a digest before = if eqb (a .number) 0 then digest else before
 

@@ -93,7 +93,7 @@ isId id Opt.none = false
 isId id (some other) = sameBytes other id
 
 -- 8.2: "the first in (4FFE,0001) whose MAC ID Number, (0400,0005), equals the signature item's". 20: "there is no (4FFE,0001) with VR SQ,
--- or none of its items has the signature item's number in a (0400,0005) with VR US and length 2" (9.3)
+-- or none of its items has the signature item's MAC ID Number in a (0400,0005) with VR US and length 2" (9.3)
 unfoldable pub parametersItem : (id : List ℕ) → Elements → List ℕ → Option Elements
 parametersItem id es d = itemWhere (λ index item. isId id (macIdOf item d)) (itemsOf (elementOf macParametersSequence es))
 

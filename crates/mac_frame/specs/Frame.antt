@@ -19,7 +19,7 @@ use Rattle.mac_frame.specs.declared.frame.Frame.the-variants as frame
 
 -- Frame (src/frame.rt): Bad | ListEnds end
 
--- 11.1: "Its input is a frame of at most 65,536 bytes"
+-- 11.1: "Its standard input is a frame of at most 65,536 bytes"
 abbrev pub inputLimit : ℕ
 inputLimit = 65536
 
