@@ -55,7 +55,8 @@ extern "C" {
  *   24  (the stream program's: bad frame)
  *   25  running digest not a possible one, or more than 2^61 - 1 bytes
  *
- * Position: for 2 to 8 an offset in the data set (data_len where a header is missing at its end); for 11 to 15 an index into the list, from 0; otherwise 0.
+ * Position: for 2 to 8 an offset in the data set (data_len where a header is missing at its end); for 11 to 15 an index into the list,
+ * from 0; otherwise 0.
  * docs/NUMBERS.md has a sentence for the help desk beside each.
  */
 

@@ -1,5 +1,4 @@
-//! List mode. 1.1: the build "forms the MAC stream, for no more than a list of
-//! tags".
+//! List mode. 1.1: the build "forms the MAC stream, from a list of tags alone".
 
 use crate::reading::{check_size, read_checked_size, DataSet, Element, Tag};
 use crate::stream::{holds_unknown, Writer};

@@ -81,7 +81,7 @@ outside d stop at = ltb (length d) stop || ltb stop at
 unfoldable pub endsAt : (delimited : Bool) (stop at : ℕ) → Bool
 endsAt delimited stop at = not delimited && eqb at stop
 
--- the delimiter stands at `at`, "with length 0", in an extent that it ends (`delimited`)
+-- the delimiter stands at `at`, "with length 0" (2.14, 2.15, 2.17), in an extent that it ends (`delimited`)
 unfoldable pub closedBy : List ℕ → (delimiter : ℕ) (delimited : Bool) (at : ℕ) → Bool
 closedBy d delimiter delimited at = delimited && (eqb (tagAt d at) delimiter && eqb (num32 d (at + 4)) 0)
 

@@ -51,7 +51,7 @@ HeaderExtent n stop start end true = (n ≡ undefined) × (end ≡ stop)
 HeaderExtent n stop start end false = (n % 2 ≡ 0) × (end ≡ start + n) × (end ≤ stop)
 
 -- The end of elements, items or fragments at `at`, in an extent up to `stop`, and what follows it at `next`: a defined length is filled
--- exactly; otherwise the delimiter "with length 0" stands there, in the extent.
+-- exactly; otherwise the delimiter "with length 0" (2.14, 2.15, 2.17) stands there, in the extent.
 abbrev pub EndsIn : List ℕ → (delimiter : ℕ) (delimited : Bool) (stop at next : ℕ) → Type 0
 EndsIn d delimiter true stop at next = (tagAt d at ≡ delimiter) × (num32 d (at + 4) ≡ 0) × (next ≡ at + 8) × (next ≤ stop)
 EndsIn d delimiter false stop at next = (at ≡ stop) × (next ≡ at)

@@ -8,7 +8,7 @@ use Rattle.mac_theorems.specs.Calls.{EitherCall, setOf, roomOf, resultOf}
 use Rattle.mac_theorems.specs.Demand3.{written}
 use Rattle.mac_theorems.proofs.Demand3.{demand-3}
 use Rattle.eddyplume.specs.Boundary.{answerWords, whichOf, StreamedTo, CheckedTo}
-use Rattle.eddyplume.specs.Theorems.{RunInC, LeavesRuns, numberIn, writtenIn, FirstHalfInC, SecondHalfInC, Theorems}
+use Rattle.eddyplume.specs.Theorems.{RunInC, LeavesRuns, numberIn, writtenIn, FirstHalfInC, SecondHalfInC, AcceptedHasContentInC, Theorems}
 
 -- ---- what the functions leave is a run
 checked-run : (c : EitherCall) (work after answer verdict : List ℕ) → roomOf c ≡ length work → CheckedTo (resultOf c) (setOf c) work after answer verdict
@@ -63,5 +63,14 @@ second-half c s out out′ after after′ answer answer′ said said′ u u′ g
       streams = written-in _ out′ after′ answer′ said′ u′ ∙ a .streams ∙ sym (written-in _ out after answer said u);
     }
 
+accepted-has-content : AcceptedHasContentInC
+accepted-has-content c out after answer said u h =
+    demand-3 .accepted-has-content c out after (u .given) said (u .run) (sym (number-in _ out after answer said u) ∙ h)
+
 pub theorems : Theorems
-theorems = record { leaves-runs = leaves-runs; first-half = first-half; second-half = second-half }
+theorems = record {
+  leaves-runs = leaves-runs;
+  first-half = first-half;
+  second-half = second-half;
+  accepted-has-content = accepted-has-content;
+}

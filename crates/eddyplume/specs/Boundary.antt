@@ -1,6 +1,6 @@
 -- What the exported functions write, in C's values (include/eddyplume.h): docs/RULES.md, 12. An array of the code is the list of its
--- numbers. `StreamedTo` and `CheckedTo` are `Streamed` and `CheckedAs` of mac with the answer as three numbers; specs/Theorems.antt says what
--- is proved of those calls of these too.
+-- numbers. `StreamedTo` and `CheckedTo` are `Streamed` and `CheckedAs` of mac with the answer as three numbers; specs/Theorems.antt says of
+-- these, too, what is proved of those.
 -- Assumes nothing.
 use Prim.Native.Nat.{ℕ}
 use mathlib.Core.Path.{_≡_}
@@ -76,7 +76,7 @@ pub record LookedUp (f : Found) (answer part : List ℕ) : Type 0 where
   pub answers : answer ≡ answerWords (f .answer)
   pub parts : part ≡ flag (f .present) ∷ f .start ∷ f .length ∷ []
 
--- 12.2: "What 7.3 says of a refused call holds for every output in C, also for a digest. Where 25 is answered no byte of `digest` is
+-- 12.2: "What 7.3 says of a refused call holds in C for every output, work buffer and digest; .. Where 25 is answered no byte of `digest` is
 -- written" (docs/DECISIONS.md, B1)
 abbrev pub digestAfter : Answer → (digest before : List ℕ) → List ℕ
 digestAfter a digest before = if eqb (a .number) 0 then digest else before

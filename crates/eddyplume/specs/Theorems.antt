@@ -51,6 +51,8 @@ FirstHalfInC =
     → numberIn answer ≡ 0 → numberIn answer′ ≡ 0 → signedInFragments (contentOf c) ≡ false
     → (writtenIn answer after ≡ writtenIn answer′ after′) ↔ (contentOf c ≡ contentOf k)
 
+-- 7.8: "the two calls have equal answers and, if they are checks, equal verdicts; and their outputs or work buffers start with the same
+-- bytes"
 pub record SameInC (answer answer′ : List ℕ) (said said′ : ℕ) (after after′ : List ℕ) : Type 0 where
   pub answers : answer′ ≡ answer
   pub verdicts : said′ ≡ said
@@ -63,8 +65,14 @@ SecondHalfInC =
     → HasSignedContent c → HasSignedContent (on c s) → contentOf (on c s) ≡ contentOf c
     → SameInC answer answer′ said said′ after after′
 
+-- the second half speaks of every accepted call
+abbrev pub AcceptedHasContentInC : Type 0
+AcceptedHasContentInC =
+    (c : Call) (out after answer : List ℕ) (said : ℕ) → RunInC (inListMode c) out after answer said → numberIn answer ≡ 0 → HasSignedContent c
+
 -- all of them
 pub record Theorems : Type 0 where
   pub leaves-runs : LeavesRuns
   pub first-half : FirstHalfInC
   pub second-half : SecondHalfInC
+  pub accepted-has-content : AcceptedHasContentInC

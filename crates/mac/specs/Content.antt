@@ -57,8 +57,8 @@ joined Opt.none rest d = Opt.none
 joined (some e) Opt.none d = Opt.none
 joined (some e) (some rest) d = some (SignedElements.and (signed e d) rest)
 
--- 6.1: "Where a data set is well-formed and has all tags of a list, the list has a signed content in it: tag, VR and value of each listed
--- element, in the list's order."; none where a tag is absent
+-- 6.1: "Where a data set is well-formed and has all tags of a list at its top level, the list has a signed content in it: tag, VR and value
+-- of each listed element, in the list's order."; none where a tag is absent
 unfoldable pub content : (tags : List ℕ) → Elements → List ℕ → Option SignedElements
 content [] es d = some SignedElements.none
 content (tag ∷ tags) es d = joined (elementOf tag es) (content tags es d) d

@@ -1,4 +1,4 @@
--- List mode, a term of docs/RULES.md, 1.1: "the MAC stream, for no more than a list of tags". 1.5: "List mode takes in no fields of a
+-- List mode, a term of docs/RULES.md, 1.1: "the MAC stream, from a list of tags alone". 1.5: "List mode takes in no fields of a
 -- signature." One definition of the answer, for the stream and for the check.
 -- Assumes nothing.
 use Prim.Native.Nat.{ℕ}

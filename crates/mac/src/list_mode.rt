@@ -1,4 +1,4 @@
-// List mode: the stream for no more than a list of tags, and the check of its digest.
+// List mode: the stream from a list of tags alone, and the check of its digest.
 use crate::extent;
 use crate::modes;
 use crate::modes::SignatureItem;

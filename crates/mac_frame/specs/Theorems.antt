@@ -1,4 +1,4 @@
--- What is true of the frame and of what is printed: statements that a reader of the definitions would ask for, all in the record Theorems,
+-- What is true of the frame: statements that a reader of the definitions would ask for, all in the record Theorems,
 -- proved in proofs/Theorems.antt.
 -- Assumes nothing.
 use Prim.Native.Nat.{ℕ, _+_, _≤_}

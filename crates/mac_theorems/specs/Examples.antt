@@ -42,7 +42,7 @@ refuses list set room number position = record { list = list; set = set; room = 
 
 -- ---- the parts
 
--- 15: "A = 08 00 60 00 43 53 02 00 43 54. B = 10 00 10 00 50 4E 02 00 4C 69. S = 08 00 00 01 53 48 02 00 41 31."
+-- 15.0: "A = 08 00 60 00 43 53 02 00 43 54. B = 10 00 10 00 50 4E 02 00 4C 69. S = 08 00 00 01 53 48 02 00 41 31."
 abbrev pub A : List ℕ
 A = 0x08 ∷ 0x00 ∷ 0x60 ∷ 0x00 ∷ 0x43 ∷ 0x53 ∷ 0x02 ∷ 0x00 ∷ 0x43 ∷ 0x54 ∷ []
 
