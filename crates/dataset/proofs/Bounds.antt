@@ -9,7 +9,7 @@ use native.Mathlib.Omega.{arith}
 use borrow.Author.Tests.{ltb-false, eqb-true, eqb-false}
 use lib.ListN.{length}
 use lib.Dec.{ltb, eqb}
-use Rattle.answer.specs.If.{if_then_else_}
+use Rattle.slices.specs.If.{if_then_else_}
 use Rattle.dataset.specs.Bytes.{num16, num32, tagAt, vrAt}
 use Rattle.dataset.specs.Vr.{formOf, oneOf, OB, SQ}
 use Rattle.dataset.specs.Header.{ElementHeader, ItemHeader, undefined, itemTag, itemDelimiter, sequenceDelimiter, outside, badLength, tooDeep, undefinedBy, definedBy, valueBy, longAt, byForm, vrOnAt, itemBy, endsAt, closedBy, elementAt, itemAt}

@@ -6,7 +6,7 @@ use mathlib.Core.Bool.{Bool, true, false}
 use mathlib.Core.List.{List, [], _∷_}
 use native.Mathlib.Omega.{arith}
 use lib.ListN.{length}
-use Rattle.dataset.specs.Bytes.{OfBytes}
+use Rattle.slices.specs.Lists.{OfBytes}
 use Rattle.dataset.specs.Tree.{Span, Element, value, sequence, fragments, Elements, none, and, Items, last, item, tagOf}
 use Rattle.dataset.specs.Reading.{read, element, explicit, byHeader, byOne, byItem, byFragment, fragmentsAt, elementsAt, itemsAt, oneAt, deeper}
 use Rattle.dataset.specs.Order.{FragmentsFill, ElementFills, ElementsFill, ItemsFill}

@@ -9,8 +9,9 @@ use native.Mathlib.Omega.{arith}
 use borrow.Author.Tests.{le-ltb, eq-eqb, ne-eqb}
 use lib.ListN.{length}
 use lib.Dec.{ltb, eqb}
-use Rattle.answer.specs.If.{if_then_else_}
-use Rattle.dataset.specs.Bytes.{num16, num32, tagAt, OfBytes}
+use Rattle.slices.specs.If.{if_then_else_}
+use Rattle.dataset.specs.Bytes.{num16, num32, tagAt}
+use Rattle.slices.specs.Lists.{OfBytes}
 use Rattle.dataset.specs.Vr.{formOf, OB, SQ}
 use Rattle.dataset.specs.Header.{ElementHeader, ItemHeader, undefined, itemTag, itemDelimiter, sequenceDelimiter, outside, endsAt, closedBy, badLength, tooDeep, undefinedBy, definedBy, valueBy, longAt, byForm, vrOnAt, elementAt, itemBy, itemAt}
 use Rattle.dataset.specs.Order.{Tagged, Sized, ValueAt, NestAt, HeaderExtent, EndsIn}

@@ -6,7 +6,7 @@ use mathlib.Core.List.{List}
 use native.Mathlib.Omega.{arith}
 use lib.Dec.{ltb}
 use borrow.Author.Tests.{ltb-true, ltb-false, lt-ltb, le-ltb, ne-eqb}
-use Rattle.answer.specs.If.{if_then_else_}
+use Rattle.slices.specs.If.{if_then_else_}
 use Rattle.dataset.specs.Bytes.{tagAt, vrAt}
 use Rattle.dataset.specs.Vr.{formOf}
 use Rattle.dataset.specs.Header.{ItemHeader, tooDeep, valueBy, longAt, byForm, vrOnAt, elementAt, itemAt}

@@ -9,7 +9,7 @@ use lib.ListN.{length}
 use borrow.Author.Tests.{lt-ltb, le-ltb}
 use Rattle.answer.specs.declared.Answer.{Answer}
 use Rattle.answer.specs.Answer as answer
-use Rattle.answer.specs.If.{if_then_else_}
+use Rattle.slices.specs.If.{if_then_else_}
 use Rattle.dataset.specs.Header.{itemCase, itemAt}
 use Rattle.dataset.specs.Tree.{Element}
 use Rattle.dataset.specs.Reading.{Reading, fault, read, _>>=_, One, ended, element, explicit, byOne, byItem, byFragment, fragmentsAt, elementsAt, itemsAt, oneAt, sizeLimit, levels, deeper, dataSet, answerOf, handedOn, oneCase}

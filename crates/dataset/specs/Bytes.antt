@@ -1,17 +1,13 @@
 -- Numbers, tags and VRs as a data set codes them: RULES, 2.4 and 2.5 (PS3.5, 7.1 and 7.3). Assumes nothing.
-use Prim.Native.Nat.{ℕ, _+_, _-_, _*_, _<_}
+use Prim.Native.Nat.{ℕ, _+_, _*_}
 use mathlib.Core.List.{List}
 use mathlib.Core.Option.{Option, some}
 use mathlib.Core.Option as Opt
-use lib.ListN.{length, getD, take, drop}
+use lib.ListN.{length, getD}
 use lib.Dec.{leb}
-use Rattle.answer.specs.If.{if_then_else_}
+use Rattle.slices.specs.If.{if_then_else_}
 use Rattle.dataset.specs.declared.bytes.TagIn.{TagIn}
 use Rattle.dataset.specs.declared.bytes.TagIn.the-variants as tagEnum
-
--- a list of bytes: a slice of the code's bytes is one; the definitions speak of numbers
-abbrev pub OfBytes : List ℕ → Type 0
-OfBytes d = (i : ℕ) → getD d i 0 < 256
 
 -- the two-byte number at i, of group and element numbers, and lengths: "In group, element number and length the low byte comes first." (2.4)
 unfoldable pub num16 : List ℕ → ℕ → ℕ
@@ -41,7 +37,3 @@ vr first second = first * 256 + second
 -- the VR of the element at i: "two letters for its VR" (2.4)
 unfoldable pub vrAt : List ℕ → ℕ → ℕ
 vrAt d i = vr (getD d (i + 4) 0) (getD d (i + 5) 0)
-
--- the bytes of d from offset `from` up to offset `to`
-unfoldable pub between : List ℕ → (from to : ℕ) → List ℕ
-between d from to = take (to - from) (drop from d)

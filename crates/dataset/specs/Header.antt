@@ -12,7 +12,7 @@ use mathlib.Core.Bool.{Bool, true, false, not, _&&_, _||_}
 use mathlib.Core.List.{List}
 use lib.ListN.{length}
 use lib.Dec.{ltb, eqb}
-use Rattle.answer.specs.If.{if_then_else_}
+use Rattle.slices.specs.If.{if_then_else_}
 use Rattle.dataset.specs.Bytes.{num16, num32, tagAt, vrAt}
 use Rattle.dataset.specs.Vr.{formOf, OB, SQ}
 use Rattle.dataset.specs.declared.vr.Form.{Form}

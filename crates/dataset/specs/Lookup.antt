@@ -9,8 +9,8 @@ use lib.Dec.{eqb}
 use lib.ListN.{length}
 use Rattle.answer.specs.declared.Answer.{Answer}
 use Rattle.answer.specs.Answer as answer
-use Rattle.answer.specs.If.{if_then_else_}
-use Rattle.dataset.specs.Bytes.{between}
+use Rattle.slices.specs.If.{if_then_else_}
+use Rattle.slices.specs.Lists.{between}
 use Rattle.dataset.specs.Tree.{Element, Elements, none, and, tagOf, spanOf}
 use Rattle.dataset.specs.Reading.{Reading, fault, read, dataSet}
 use Rattle.dataset.specs.declared.lookup.Found.{Found}

@@ -9,7 +9,7 @@ use lib.ListN.{length}
 use lib.Dec.{ltb}
 use Rattle.answer.specs.declared.Answer.{Answer}
 use Rattle.answer.specs.Answer as answer
-use Rattle.answer.specs.If.{if_then_else_}
+use Rattle.slices.specs.If.{if_then_else_}
 use Rattle.dataset.specs.Header.{ElementHeader, ItemHeader, elementAt, itemAt}
 use Rattle.dataset.specs.Tree.{Span, span, Element, value, sequence, fragments, Elements, none, and, Items, last, item, tagOf, vrOf, spanOf}
 use Rattle.dataset.specs.declared.reading.OneOutcome.{OneOutcome}

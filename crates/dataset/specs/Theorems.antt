@@ -6,7 +6,7 @@ use mathlib.Core.Bool.{Bool, true, false}
 use mathlib.Core.List.{List}
 use lib.ListN.{length, take}
 use Rattle.answer.specs.declared.Answer.{Answer}
-use Rattle.dataset.specs.Bytes.{OfBytes}
+use Rattle.slices.specs.Lists.{OfBytes}
 use Rattle.dataset.specs.Header.{elementAt, itemAt}
 use Rattle.dataset.specs.Tree.{Elements}
 use Rattle.dataset.specs.Reading.{fault, read, _>>=_, explicit, byOne, byItem, byFragment, fragmentsBy, elementsBy, itemsBy, elementsAt, itemsAt, fragmentsAt, oneAt, sizeLimit, levels, deeper, dataSet, answerOf, WellFormed}

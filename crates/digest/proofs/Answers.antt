@@ -1,6 +1,6 @@
 -- What the calls answer, by the test that the code makes.
 -- Assumes nothing.
-use Rattle.answer.specs.If.{if_then_else_}
+use Rattle.slices.specs.If.{if_then_else_}
 use Prim.Native.Nat.{ℕ}
 use mathlib.Core.Path.{_≡_, refl}
 use mathlib.Core.Bool.{true, false}

@@ -12,7 +12,8 @@ use lib.ListN.{length, replicate, length-append, length-replicate}
 use lib.Seq.{paste-zero}
 use Rattle.answer.specs.Answer.{accepted, refused}
 use Rattle.digest.specs.Message.{Algorithm, limit, hashing}
-use Rattle.digest.specs.Running.{allZero, possible, accepts, start, fed, finished, feeding, finishing}
+use Rattle.digest.specs.Running.{possible, accepts, start, fed, finished, feeding, finishing}
+use Rattle.slices.specs.Lists.{allAre}
 use Rattle.digest.specs.Theorems.{afterCalls, CallsFromStart, CallsFrom}
 use Rattle.digest.specs.declared.running.Running.{Running}
 use Rattle.digest.specs.declared.running.Fed.{Fed}
@@ -31,7 +32,7 @@ accepts-fewer s n k h e =
     sym (accepts-within s k true (omega arith) (sym (and-eq-true-iff _ _ .0 e .0)))
 
 accepts-start : (a : Algorithm) (n : ℕ) → accepts (start a) n ≡ leb n limit
-unfolding accepts possible start allZero
+unfolding accepts possible start allAre
 accepts-start a n = ap (λ (k : ℕ). leb k limit) (zero-add n)
 
 -- ---- a row of calls

@@ -9,8 +9,8 @@ use borrow.Author.Tests.{leb-true, ltb-true}
 use lib.Dec.{leb, ltb}
 use lib.ListN.{length, drop}
 use lib.Seq.{getD-drop}
-use Rattle.answer.specs.If.{if_then_else_}
-use Rattle.digest.specs.Lists.{at}
+use Rattle.slices.specs.If.{if_then_else_}
+use Rattle.slices.specs.Lists.{at}
 use Rattle.digest.specs.Sha256.{constants, startWords}
 use Rattle.digest.specs.Constants.{RootBits, undivided, primesBelow}
 use Rattle.digest.specs.Theorems.{ConstantsRule, StartWordsRule}

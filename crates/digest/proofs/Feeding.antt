@@ -12,7 +12,8 @@ use lib.ListN.{length, drop, replicate, length-append}
 use lib.Seq.{take-append-seam, drop-append-seam, length-take-le}
 use Rattle.digest.specs.Padding.{wordBytes, padding}
 use Rattle.digest.specs.Message.{Algorithm, afterBlocks, rest, digestOf, limit}
-use Rattle.digest.specs.Running.{waitingBytes, allZero, possible, accepts, zeroFilled, start, fed, finished}
+use Rattle.digest.specs.Running.{waitingBytes, possible, accepts, zeroFilled, start, fed, finished}
+use Rattle.slices.specs.Lists.{allAre}
 use Rattle.digest.specs.Theorems.{TwoFeedings, DigestSoFar}
 use Rattle.digest.specs.declared.running.Running.{Running}
 use Rattle.digest.proofs.Chain.{afterBlocks-more, rest-more, length-rest}
@@ -53,7 +54,7 @@ accepts-fed a s m n l c h =
     let all = waitingBytes s ++ m in
     let n₁ = length-waiting s m (omega arith) in
     let e₁ : eqb (length (rest all)) ((s .total + length m) % 64) ≡ true = eq-eqb _ _ (length-rest all ∙ omega arith) in
-    let e₂ : allZero (drop (length (rest all)) (zeroFilled (rest all))) ≡ true =
-    ap allZero (drop-append-seam (rest all) (replicate (64 - length (rest all)) 0)) ∙ zeros-zero (64 - length (rest all)) in
+    let e₂ : allAre 0 (drop (length (rest all)) (zeroFilled (rest all))) ≡ true =
+    ap (allAre 0) (drop-append-seam (rest all) (replicate (64 - length (rest all)) 0)) ∙ zeros-zero (64 - length (rest all)) in
     let e₃ : leb (s .total + length m + n) limit ≡ true = le-leb (s .total + length m + n) limit h in
     ap₂ _&&_ (ap₂ _&&_ e₁ e₂) e₃

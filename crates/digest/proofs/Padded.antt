@@ -1,15 +1,16 @@
 -- The waiting bytes and the padding after them: the stores that make them, and the blocks that they fill.
 -- Assumes nothing.
-use Prim.Native.Nat.{ℕ, suc, _+_, _-_, _%_, _<_, _≤_}
+use Prim.Native.Nat.{ℕ, zero, suc, _+_, _-_, _%_, _<_, _≤_}
 use mathlib.Core.Path.{_≡_, refl, sym, ap, ap₂, _∙_}
 use mathlib.Core.Bool.{Bool, true, false}
-use mathlib.Core.List.{List, _∷_, _++_, append-assoc}
+use mathlib.Core.List.{List, [], _∷_, _++_, append-assoc}
 use native.Mathlib.Omega.{arith}
 use borrow.Author.Tests.{ltb-true, ltb-false}
 use lib.Dec.{ltb}
-use lib.ListN.{length, set, take, replicate, length-append, length-replicate}
-use lib.Seq.{paste, take-paste, take-length, take-all, take-append-add, set-append-seam}
-use Rattle.answer.specs.If.{if_then_else_}
+use lib.ListN.{length, getD, set, take, replicate, length-append, length-replicate}
+use lib.Seq.{sets, paste, paste-zero, paste-suc, take-suc, length-take-le, take-paste, take-length, take-all, take-append-add, set-append-seam}
+use Rattle.slices.specs.If.{if_then_else_}
+use Rattle.slices.proofs.Writing.{sets-append}
 use Rattle.digest.specs.Padding.{ByteOrder, bytesOf, zerosAfter, padding}
 use Rattle.digest.specs.Theorems.{FewestZeros}
 use Rattle.digest.proofs.Tables.{length-tabulate}
@@ -70,3 +71,14 @@ fills-by count total false e c =
 
 pub fills : (count total n : ℕ) → count ≡ total % 64 → n ≡ (if ltb count 56 then 64 else 128) → Fills count total n
 fills count total n c e = rw e (fills-by count total (ltb count 56) refl c)
+
+-- ---- `put`: what is copied where it fits is pasted
+copied : (l s : List ℕ) (at n : ℕ) → n ≤ length s → at + n ≤ length l → sets l at (take n s) ≡ paste l at s n
+copied l s at zero h k = paste-zero l at s
+copied l s at (suc n) h k =
+    ap (λ (x : List ℕ). sets l at x) (take-suc s n 0 (omega arith)) ∙ sets-append l at (take n s) (getD s n 0 ∷ [])
+    ∙ ap₂ (λ (x : List ℕ) (i : ℕ). set x (at + i) (getD s n 0)) (copied l s at n (omega arith) (omega arith)) (length-take-le n s (omega arith))
+    ∙ paste-suc l at s n 0 (omega arith) (omega arith)
+
+pub pasted : (l s after : List ℕ) (at : ℕ) → at + length s ≤ length l → after ≡ sets l at s → after ≡ paste l at s (length s)
+pasted l s after at h e = e ∙ ap (λ (x : List ℕ). sets l at x) (sym (take-length s)) ∙ copied l s at (length s) (omega arith) h

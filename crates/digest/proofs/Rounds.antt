@@ -8,7 +8,7 @@ use native.Mathlib.Numerals.{add-one}
 use native.Mathlib.Omega.{arith}
 use lib.ListN.{length, take, set, length-append}
 use lib.Seq.{getD-take}
-use Rattle.digest.specs.Lists.{at}
+use Rattle.slices.specs.Lists.{at}
 use Rattle.digest.specs.Sha256.{constants, nextWord, extended, round, rounds}
 use Rattle.digest.specs.declared.sha256.Working.{Working}
 use Rattle.digest.proofs.Tables.{stored-next}

@@ -5,7 +5,7 @@ use Prim.Native.Nat.{ℕ, zero, suc, _+_, _-_, _*_, _%_, _^_, _<_, _≤_}
 use mathlib.Core.Bool.{Bool, true, not, _&&_, _||_}
 use mathlib.Core.List.{List, [], _∷_, _++_}
 use lib.Dec.{eqb, leb, ltb}
-use Rattle.answer.specs.If.{if_then_else_}
+use Rattle.slices.specs.If.{if_then_else_}
 
 -- 4.2.2, 5.3.3: x is the first 32 bits of the fractional part of the e-th root of p. With the root's whole part, whole * 2 ^ 32 + x is the
 -- greatest number whose e-th power is at most p * 2 ^ (32 * e).

@@ -1,4 +1,3 @@
-pub mod Lists
 pub mod Words
 pub mod Padding
 pub mod Message

@@ -4,7 +4,7 @@
 use Prim.Native.Nat.{ℕ, _-_, _*_, _/_, _%_, _^_}
 use mathlib.Core.List.{List, _∷_, _++_}
 use lib.ListN.{replicate}
-use Rattle.digest.specs.Lists.{at, tabulate}
+use Rattle.slices.specs.Lists.{at, tabulate}
 
 -- which byte of a number comes first: the highest in FIPS 180-4, the lowest in RFC 1321, which no digest here uses
 -- (docs/DECISIONS.md, D7)

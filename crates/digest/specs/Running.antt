@@ -4,11 +4,12 @@
 -- An array of the code is the list of its numbers; the definitions hold for lists of any length.
 -- Assumes nothing.
 use Prim.Native.Nat.{ℕ, _+_, _-_, _%_}
-use mathlib.Core.Bool.{Bool, true, _&&_}
-use mathlib.Core.List.{List, [], _∷_, _++_}
+use mathlib.Core.Bool.{Bool, _&&_}
+use mathlib.Core.List.{List, [], _++_}
 use lib.Dec.{eqb, leb}
 use lib.ListN.{length, take, drop, replicate}
-use Rattle.answer.specs.If.{if_then_else_}
+use Rattle.slices.specs.If.{if_then_else_}
+use Rattle.slices.specs.Lists.{allAre}
 use Rattle.answer.specs.Answer.{accepted, refused}
 use Rattle.digest.specs.Padding.{wordBytes, padding}
 use Rattle.digest.specs.Message.{Algorithm, afterBlocks, rest, limit}
@@ -20,14 +21,9 @@ use Rattle.digest.specs.declared.running.Finished.{Finished}
 abbrev pub waitingBytes : Running → List ℕ
 waitingBytes s = take (s .count) (s .waiting)
 
--- every number of the list is 0
-unfoldable pub allZero : List ℕ → Bool
-allZero [] = true
-allZero (x ∷ xs) = eqb x 0 && allZero xs
-
 -- 10.3: "It is possible when the count of waiting bytes is what the total leaves modulo 64, and the rest of the room for them is zero."
 unfoldable pub possible : Running → Bool
-possible s = eqb (s .count) (s .total % 64) && allZero (drop (s .count) (s .waiting))
+possible s = eqb (s .count) (s .total % 64) && allAre 0 (drop (s .count) (s .waiting))
 
 -- neither condition of 25 holds: it is possible, and its total is within the limit after n bytes more
 unfoldable pub accepts : Running → ℕ → Bool

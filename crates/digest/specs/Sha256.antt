@@ -5,7 +5,7 @@
 use Prim.Native.Nat.{ℕ, zero, suc, _+_, _-_, _*_, _%_, _^_}
 use mathlib.Core.List.{List, [], _∷_, _++_}
 use lib.ListN.{length}
-use Rattle.digest.specs.Lists.{at, tabulate}
+use Rattle.slices.specs.Lists.{at, tabulate}
 use Rattle.digest.specs.Words.{ch, maj, bigSigma0, bigSigma1, smallSigma0, smallSigma1}
 use Rattle.digest.specs.Padding.{bigEndian}
 use Rattle.digest.specs.Message.{Algorithm}

@@ -7,7 +7,7 @@ use mathlib.Core.Bool.{true}
 use mathlib.Core.List.{List, [], _∷_, _++_, flatten}
 use lib.ListN.{length}
 use Rattle.answer.specs.Answer.{accepted}
-use Rattle.digest.specs.Lists.{at}
+use Rattle.slices.specs.Lists.{at}
 use Rattle.digest.specs.Sha256.{constants, startWords}
 use Rattle.digest.specs.Constants.{RootBits, primesBelow}
 use Rattle.digest.specs.Padding.{ByteOrder, zerosAfter, padding}

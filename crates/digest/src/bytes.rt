@@ -3,7 +3,7 @@ ghost use mathlib.Core.Path.{_≡_};
 ghost use Prim.Native.Nat.{_+_, _*_, _^_, _<_, _≤_};
 ghost use lib.ListN.{length};
 ghost use lib.Seq.{paste};
-ghost use Rattle.digest.specs.Lists.{at};
+ghost use Rattle.slices.specs.Lists.{at};
 ghost use Rattle.digest.specs.Padding as Spec;
 
 // Copies `from` into `to` from an index on.
@@ -11,11 +11,7 @@ pub(crate) fn put(to: &mut [u8], at: usize, from: &[u8])
     requires { ⌜ at + length (now from) ≤ length (now to) ⌝ }
     ensures { λ _. ⌜ now (to .exit) ≡ paste (now (to .entry)) at (now (from .entry)) (length (now (from .entry))) ⌝ }
 {
-    let mut i: usize = 0;
-    while i < from.len() {
-        to[at + i] = from[i];
-        i += 1;
-    }
+    slices::copy(from, to, at);
 }
 
 pub(crate) fn word(a: u8, b: u8, c: u8, d: u8) -> u32

@@ -5,7 +5,7 @@ ghost use mathlib.Core.List.{_∷_, _++_};
 ghost use Prim.Native.Nat.{_+_, _-_, _<_, _≤_};
 ghost use lib.Dec.{ltb};
 ghost use lib.ListN.{take, replicate};
-ghost use Rattle.answer.specs.If.{if_then_else_};
+ghost use Rattle.slices.specs.If.{if_then_else_};
 
 // How many bytes `count` waiting bytes are when they are padded: one block, or two where the length does not fit.
 pub(crate) fn padded_size(count: usize) -> usize

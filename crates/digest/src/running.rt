@@ -7,6 +7,7 @@ ghost use mathlib.Core.Path.{_≡_};
 ghost use Prim.Native.Nat.{_+_, _≤_};
 ghost use lib.ListN.{length, drop};
 ghost use lib.Seq.{paste};
+ghost use Rattle.slices.specs.Lists.{allAre};
 ghost use Rattle.digest.specs.Message.{rest};
 ghost use Rattle.digest.specs.Sha256 as Sha256;
 ghost use Rattle.digest.specs.Running as Spec;
@@ -39,16 +40,9 @@ pub struct Finished {
 // Whether every byte from an index on is 0.
 fn zero_from(bytes: [u8; 64], from: usize) -> bool
     requires { ⌜ from ≤ 64 ⌝ }
-    ensures { λ r. ⌜ r ≡ Spec.allZero (drop from bytes) ⌝ }
+    ensures { λ r. ⌜ r ≡ allAre 0 (drop from bytes) ⌝ }
 {
-    let mut i = from;
-    while i < 64 {
-        if bytes[i] != 0 {
-            return false;
-        }
-        i += 1;
-    }
-    true
+    slices::all_are(&bytes[from..], 0)
 }
 
 // The waiting bytes with `bytes` after them.

@@ -5,7 +5,7 @@ use std::num::wrapping_add_u32;
 ghost use mathlib.Core.Path.{_≡_};
 ghost use Prim.Native.Nat.{_<_, _≤_};
 ghost use lib.ListN.{length, take};
-ghost use Rattle.digest.specs.Lists.{tabulate};
+ghost use Rattle.slices.specs.Lists.{tabulate};
 ghost use Rattle.digest.specs.Message.{afterBlocks};
 ghost use Rattle.digest.specs.Sha256 as Spec;
 

@@ -5,7 +5,7 @@ use mathlib.Core.Bool.{Bool, true, false}
 use mathlib.Core.List.{List, [], _∷_}
 use borrow.Author.Tests.{eq-eqb, ne-eqb}
 use Rattle.answer.specs.declared.Answer.{Answer}
-use Rattle.answer.specs.If.{if_then_else_}
+use Rattle.slices.specs.If.{if_then_else_}
 use Rattle.dataset.specs.declared.lookup.Found.{Found}
 use Rattle.digest.specs.Running.{feeding, finishing}
 use Rattle.digest.specs.Sha256.{sha256}
@@ -18,8 +18,7 @@ use Rattle.mac.specs.SignatureMode as mode
 use Rattle.mac.specs.declared.signature_mode.Signature.{Signature}
 use Rattle.mac.specs.declared.signature_mode.Signature.the-variants as signature
 use Rattle.mac.specs.declared.verdict.Checked.{Checked}
-use Rattle.eddyplume.specs.Boundary.{answerWords, whichOf, flag, StreamedTo, CheckedTo, LookedUp}
-use Rattle.eddyplume.specs.Boundary.{digestAfter, HashedTo, Holds, FedTo, FinishedTo}
+use Rattle.eddyplume.specs.Boundary.{answerWords, whichOf, flag, StreamedTo, CheckedTo, LookedUp, digestAfter, HashedTo, Holds, FedTo, FinishedTo}
 
 pub which-number : (numbered : Bool) (number : ℕ) → numbered ≡ true → signature.Number number ≡ whichOf numbered number
 which-number numbered number h = rw h

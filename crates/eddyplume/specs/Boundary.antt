@@ -9,8 +9,8 @@ use mathlib.Core.List.{List, [], _∷_}
 use lib.Dec.{eqb}
 use lib.ListN.{getD}
 use Rattle.answer.specs.declared.Answer.{Answer}
-use Rattle.answer.specs.If.{if_then_else_}
-use Rattle.dataset.specs.Bytes.{OfBytes}
+use Rattle.slices.specs.If.{if_then_else_}
+use Rattle.slices.specs.Lists.{OfBytes}
 use Rattle.dataset.specs.declared.lookup.Found.{Found}
 use Rattle.digest.specs.Running.{feeding, finishing}
 use Rattle.digest.specs.Sha256.{sha256}

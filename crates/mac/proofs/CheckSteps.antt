@@ -13,58 +13,19 @@ use lib.ListN.{length, take, drop, getD, length-drop}
 use lib.Seq.{take-at, length-take-le}
 use borrow.Author.Tests.{eq-eqb, ne-eqb, eqb-true, eqb-false, le-leb}
 use Rattle.answer.specs.declared.Answer.{Answer}
-use Rattle.answer.specs.If.{if_then_else_}
+use Rattle.slices.specs.If.{if_then_else_}
 use Rattle.digest.specs.Message.{limit, digestOf, hashing}
 use Rattle.digest.specs.Sha256.{sha256}
 use Rattle.digest.specs.declared.message.Hashed.{Hashed}
 use Rattle.mac.specs.Modes.{badDigestLength}
 use Rattle.mac.specs.Result.{Result, outputAfter, same, differs, verdictCode, compared, verdictOf, Streamed, CheckedAs}
-use Rattle.mac.specs.Bytes.{sameBytes}
+use Rattle.slices.specs.Lists.{sameBytes}
 use Rattle.mac.specs.Inner.Verdict.{CheckOf}
 use Rattle.mac.specs.Inner.Calls.{CallAnswered}
 use Rattle.mac.specs.declared.verdict.Verdict.{Verdict}
 use Rattle.mac.specs.declared.verdict.Verdict.the-variants as verdict
 use Rattle.mac.specs.declared.verdict.Checked.{Checked}
-use Rattle.mac.proofs.OutputSteps.{drop-one}
-
--- ---- the loop of `same_bytes`
-pub record SameLoop (a b : List ℕ) (i : ℕ) : Type 0 where
-  pub inside : i ≤ length a
-  pub same : sameBytes a b ≡ sameBytes (drop i a) (drop i b)
-
-pub same-start : (a b : List ℕ) → SameLoop a b 0
-same-start a b = record { inside = omega arith; same = refl }
-
-pub same-lengths : (a b : List ℕ) → (length a ≡ length b → ⊥) → false ≡ sameBytes a b
-unfolding sameBytes
-same-lengths [] [] h = absurd (h refl)
-same-lengths [] (y ∷ b) h = refl
-same-lengths (x ∷ a) [] h = refl
-same-lengths (x ∷ a) (y ∷ b) h = go (eqb x y) (same-lengths a b λ e. h (ap suc e))
-  where
-    go : (t : Bool) → false ≡ sameBytes a b → false ≡ (t && sameBytes a b)
-    go true e = e
-    go false e = refl
-
-none-left : (a b : List ℕ) → length a ≡ 0 → length b ≡ 0 → sameBytes a b ≡ true
-unfolding sameBytes
-none-left [] [] h k = refl
-none-left [] (y ∷ b) h k = absurd (omega arith)
-none-left (x ∷ a) b h k = absurd (omega arith)
-
-module _ (a b : List ℕ) (i : ℕ) (s : SameLoop a b i) (h : length a ≡ length b) where
-  on : i < length a → sameBytes a b ≡ (eqb (getD a i 0) (getD b i 0) && sameBytes (drop (i + 1) a) (drop (i + 1) b))
-  unfolding sameBytes
-  on k = s .same ∙ rw (drop-one a i k, drop-one b i (omega arith))
-
-  pub same-differs : i < length a → (getD a i 0 ≡ getD b i 0 → ⊥) → false ≡ sameBytes a b
-  same-differs k q = sym (on k ∙ rw (ne-eqb (getD a i 0) (getD b i 0) q))
-
-  pub same-again : i < length a → getD a i 0 ≡ getD b i 0 → SameLoop a b (i + 1)
-  same-again k q = record { inside = omega arith; same = on k ∙ rw (eq-eqb (getD a i 0) (getD b i 0) q) }
-
-  pub same-end : length a ≤ i → true ≡ sameBytes a b
-  same-end k = sym (s .same ∙ none-left (drop i a) (drop i b) (simp length-drop (omega arith)) (simp length-drop (omega arith)))
+use Rattle.slices.proofs.Parts.{drop-one}
 
 -- ---- the verdict
 module _ (digest expected : List ℕ) (b : Bool) (e : b ≡ sameBytes digest expected) where

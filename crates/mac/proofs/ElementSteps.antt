@@ -11,8 +11,8 @@ use lib.ListN.{length, length-append}
 use lib.Seq.{sets}
 use Rattle.answer.specs.declared.Answer.{Answer}
 use Rattle.answer.specs.Answer.{refused}
-use Rattle.answer.specs.If.{if_then_else_}
-use Rattle.dataset.specs.Bytes.{between}
+use Rattle.slices.specs.If.{if_then_else_}
+use Rattle.slices.specs.Lists.{between}
 use Rattle.dataset.specs.Vr.{UN}
 use Rattle.dataset.specs.Header.{elementCase, elementAt}
 use Rattle.dataset.specs.Header as spec
@@ -29,8 +29,8 @@ use Rattle.mac.specs.declared.keep.Keep.{Keep}
 use Rattle.mac.specs.declared.writer.Written.{Written}
 use Rattle.mac.specs.declared.writer.OneWritten.{OneWritten}
 use Rattle.mac.specs.declared.writer.OneWritten.the-variants as one
-use Rattle.mac.proofs.Slices.{length-between}
-use Rattle.mac.proofs.OutputSteps.{sets-append}
+use Rattle.slices.proofs.Parts.{length-between}
+use Rattle.slices.proofs.Writing.{sets-append}
 
 -- ---- an element that holds what the reading p gives: its header's eight bytes, and then the stream of p
 pub record Holds {A : Type 0} (unknown : A → Bool) (stream : A → List ℕ → List ℕ) (d : List ℕ) (tag : ℕ) (bytes : List ℕ) (e : Element) (a : A) : Type 0 where

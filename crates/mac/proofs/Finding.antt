@@ -6,7 +6,7 @@ use mathlib.Core.Option.{some}
 use mathlib.Core.Option as Opt
 use native.Mathlib.Omega.{arith}
 use borrow.Author.Tests.{eq-eqb, ne-eqb}
-use Rattle.answer.specs.If.{if_then_else_}
+use Rattle.slices.specs.If.{if_then_else_}
 use Rattle.dataset.specs.Tree.{Element, Elements, none, and, tagOf}
 use Rattle.dataset.proofs.Lies.{ElementsLie}
 use Rattle.dataset.specs.Lookup.{elementOf}

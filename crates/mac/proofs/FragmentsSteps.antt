@@ -10,7 +10,7 @@ use lib.ListN.{length}
 use lib.Seq.{sets}
 use Rattle.answer.specs.declared.Answer.{Answer}
 use Rattle.answer.specs.Answer.{refused}
-use Rattle.dataset.specs.Bytes.{between}
+use Rattle.slices.specs.Lists.{between}
 use Rattle.dataset.specs.Header.{itemCase, itemAt}
 use Rattle.dataset.specs.Tree.{Span, span}
 use Rattle.dataset.specs.Reading.{fault, explicit, byFragment, fragmentsAt}
@@ -22,8 +22,8 @@ use Rattle.dataset.proofs.Unfolding.{fragments-are}
 use Rattle.mac.specs.Stream.{itemTagBytes, sequenceDelimiterBytes, fragmentsStream}
 use Rattle.mac.specs.Inner.Writer.{walked, holdsNone, Walk}
 use Rattle.mac.specs.declared.writer.Written.the-variants as written
-use Rattle.mac.proofs.Slices.{length-between}
-use Rattle.mac.proofs.OutputSteps.{two-runs}
+use Rattle.slices.proofs.Parts.{length-between}
+use Rattle.slices.proofs.Writing.{two-runs}
 use Rattle.mac.proofs.Walks.{Front, Going, start, go-on, stop-at, done}
 
 -- an item tag and the bytes of a fragment

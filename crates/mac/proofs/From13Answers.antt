@@ -7,7 +7,7 @@ use mathlib.Core.Option.{Option}
 use native.Mathlib.Omega.{arith}
 use lib.Dec.{ltb}
 use lib.ListN.{length}
-use Rattle.answer.specs.If.{if_then_else_}
+use Rattle.slices.specs.If.{if_then_else_}
 use Rattle.answer.specs.Answer.{accepted}
 use Rattle.answer.proofs.Chain.{or-else-second, both-accepted, passed}
 use Rattle.dataset.specs.Tree.{Elements}

@@ -11,7 +11,7 @@ use lib.Seq.{sets, sets-eq}
 use borrow.Author.Tests.{lt-ltb, le-ltb, ne-eqb, eqb-true, eqb-false}
 use lib.Dec.{eqb}
 use Rattle.answer.specs.declared.Answer.{Answer}
-use Rattle.answer.specs.If.{if_then_else_}
+use Rattle.slices.specs.If.{if_then_else_}
 use Rattle.answer.specs.Answer.{accepted, refused, _orElse_}
 use Rattle.answer.proofs.Chain.{or-else-first, or-else-second, both-accepted}
 use Rattle.dataset.specs.Tree.{Elements}

@@ -23,7 +23,7 @@ use Rattle.mac.specs.UN.{elementsHoldUN, itemsHoldUN}
 use Rattle.mac.specs.Inner.Writer.{walked, Leaves, Walk}
 use Rattle.mac.specs.declared.writer.Written.{Written}
 use Rattle.mac.specs.declared.writer.Written.the-variants as written
-use Rattle.mac.proofs.OutputSteps.{two-runs}
+use Rattle.slices.proofs.Writing.{two-runs}
 use Rattle.mac.proofs.StreamLength.{elements-length}
 use Rattle.mac.proofs.Walks.{Front, Going, start, go-on, stop-at, done}
 

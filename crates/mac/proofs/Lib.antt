@@ -1,5 +1,3 @@
-pub mod Slices
-pub mod OutputSteps
 pub mod From13Answers
 pub mod StreamLength
 pub mod OwnElements

@@ -10,7 +10,7 @@ use lib.ListN.{length, length-append}
 use lib.Seq.{sets}
 use borrow.Author.Tests.{le-ltb, eq-eqb, ltb-false}
 use Rattle.answer.specs.declared.Answer.{Answer}
-use Rattle.answer.specs.If.{if_then_else_}
+use Rattle.slices.specs.If.{if_then_else_}
 use Rattle.answer.specs.Answer.{accepted, refused, _orElse_}
 use Rattle.dataset.specs.Tree.{Element, Elements, none, and, tagOf}
 use Rattle.dataset.specs.Reading.{Reading, fault, read, _>>=_}
@@ -20,7 +20,7 @@ use Rattle.mac.specs.Stream.{streamOf, listedStream}
 use Rattle.mac.specs.UN.{isUN, holdsUN}
 use Rattle.mac.specs.Modes.{elementAnswer, tagsAnswer}
 use Rattle.mac.specs.Inner.Listed.{listedAnswer, ListedLeaves}
-use Rattle.mac.proofs.OutputSteps.{sets-append}
+use Rattle.slices.proofs.Writing.{sets-append}
 use Rattle.mac.proofs.Finding.{find-past, find-here}
 
 -- ---- tags in ascending order, from `least` on

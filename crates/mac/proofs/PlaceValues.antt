@@ -10,8 +10,8 @@ use lib.Dec.{eqb}
 use lib.ListN.{length}
 use types.Run.{OneOf}
 use denote.Enum.Declared.{tagOf}
-use Rattle.answer.specs.If.{if_then_else_}
-use Rattle.dataset.specs.Bytes.{between}
+use Rattle.slices.specs.If.{if_then_else_}
+use Rattle.slices.specs.Lists.{between}
 use Rattle.dataset.specs.Tree.{Element, Elements}
 use Rattle.dataset.specs.Reading.{Reading, fault, read}
 use Rattle.dataset.specs.Lookup.{elementOf}

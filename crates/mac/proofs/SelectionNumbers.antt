@@ -7,7 +7,7 @@ use mathlib.Core.List.{List}
 use mathlib.Core.Option.{Option, some}
 use mathlib.Core.Option as Opt
 use native.Mathlib.Omega.{arith}
-use Rattle.answer.specs.If.{if_then_else_}
+use Rattle.slices.specs.If.{if_then_else_}
 use Rattle.dataset.specs.Vr.{AT, CS, UI}
 use Rattle.dataset.specs.Tree.{Elements}
 use Rattle.dataset.specs.Lookup.{elementOf}

@@ -10,22 +10,20 @@ use lib.Dec.{eqb}
 use lib.ListN.{length, take, drop, getD, length-drop, length-take}
 use lib.Seq.{drop-cons, length-take-le, take-all, take-length}
 use borrow.Author.Tests.{eq-eqb, ne-eqb}
-use Rattle.answer.specs.If.{if_then_else_}
-use Rattle.dataset.specs.Bytes.{between}
+use Rattle.slices.specs.If.{if_then_else_}
+use Rattle.slices.specs.Lists.{between, sameBytes, allAre}
 use Rattle.dataset.specs.Vr.{US}
 use Rattle.dataset.specs.Tree.{Element}
 use Rattle.dataset.specs.Lookup.{elementOf}
-use Rattle.mac.specs.Bytes.{sameBytes}
-use Rattle.mac.specs.Selection.{macIdNumber, valueOf, twoBytes, macIdOf, lessNul, implicitVrLittleEndian, explicitVrBigEndian, badTransferSyntax, SHA256, onlySpaces, isTerm, badAlgorithm}
+use Rattle.mac.specs.Selection.{macIdNumber, valueOf, twoBytes, macIdOf, lessNul, implicitVrLittleEndian, explicitVrBigEndian, badTransferSyntax, SHA256, isTerm, badAlgorithm}
 use Rattle.mac.specs.Inner.Seek.{Placed, PlaceLies}
 use Rattle.mac.specs.Inner.Selection.{KeyLies, Tests, SameMacId, TestsKey, LessNul}
 use Rattle.mac.specs.declared.seek.Place.{Place}
 use Rattle.mac.specs.declared.seek.Place.the-variants as place
 use Rattle.mac.specs.declared.selection.ItemKey.{ItemKey}
 use Rattle.mac.specs.declared.selection.ItemKey.the-variants as key
-use Rattle.mac.proofs.Slices.{length-between}
-use Rattle.mac.proofs.OutputSteps.{drop-one}
-use Rattle.mac.proofs.CheckSteps.{same-lengths}
+use Rattle.slices.proofs.Parts.{length-between, drop-one}
+use Rattle.slices.proofs.Comparing.{same-lengths}
 use Rattle.mac.proofs.PlaceValues.{NoValue, no-value, value-order, value-inside, value-at}
 
 -- ---- a test of the value in a place
@@ -123,32 +121,6 @@ module _ (uid value : List ℕ) (n : ℕ) (l : LessNul value n) where
       uid-rest r u w = rw (ne-eqb (length value) 0 h, ← l .is, ← e, t, ← g, u) w
 
 -- ---- 22
-pub record SpacesLoop (s : List ℕ) (i : ℕ) : Type 0 where
-  pub inside : i ≤ length s
-  pub same : onlySpaces s ≡ onlySpaces (drop i s)
-
-pub spaces-start : (s : List ℕ) → SpacesLoop s 0
-spaces-start s = record { inside = omega arith; same = refl }
-
-no-bytes : (s : List ℕ) → length s ≡ 0 → onlySpaces s ≡ true
-unfolding onlySpaces
-no-bytes [] h = refl
-no-bytes (x ∷ s) h = absurd (omega arith)
-
-module _ (s : List ℕ) (i : ℕ) (l : SpacesLoop s i) where
-  spaces-on : i < length s → onlySpaces s ≡ (eqb (getD s i 0) 0x20 && onlySpaces (drop (i + 1) s))
-  unfolding onlySpaces
-  spaces-on h = l .same ∙ rw (drop-one s i h)
-
-  pub spaces-other : i < length s → (getD s i 0 ≡ 0x20 → ⊥) → false ≡ onlySpaces s
-  spaces-other h k = sym (spaces-on h ∙ rw (ne-eqb (getD s i 0) 0x20 k))
-
-  pub spaces-again : i < length s → getD s i 0 ≡ 0x20 → SpacesLoop s (i + 1)
-  spaces-again h k = record { inside = omega arith; same = spaces-on h ∙ rw (eq-eqb (getD s i 0) 0x20 k) }
-
-  pub spaces-end : length s ≤ i → true ≡ onlySpaces s
-  spaces-end h = sym (l .same ∙ no-bytes (drop i s) (simp length-drop (omega arith)))
-
 pub term-short : (value : List ℕ) → length value < 6 → false ≡ isTerm SHA256 value
 unfolding isTerm
 term-short value h = rw (← same-lengths (take 6 value) SHA256 (λ e. omega (arith, simp length-take at e)))
@@ -161,9 +133,9 @@ module _ (value : List ℕ) (b : Bool) (e : b ≡ sameBytes (take 6 value) SHA25
   unfolding isTerm
   term-other t = rw (← e, t)
 
-  pub term-spaces : (r : Bool) → b ≡ true → r ≡ onlySpaces (take (length value - 6) (drop 6 value)) → r ≡ isTerm SHA256 value
+  pub term-spaces : (r : Bool) → b ≡ true → r ≡ allAre 0x20 (take (length value - 6) (drop 6 value)) → r ≡ isTerm SHA256 value
   unfolding isTerm
-  term-spaces r t w = rw (← e, t) (w ∙ ap onlySpaces (take-all (length value - 6) (drop 6 value) (simp length-drop (omega arith))))
+  term-spaces r t w = rw (← e, t) (w ∙ ap (allAre 0x20) (take-all (length value - 6) (drop 6 value) (simp length-drop (omega arith))))
 
 pub not-term : (value : List ℕ) (b : Bool) → b ≡ isTerm SHA256 value → not b ≡ badAlgorithm (some value)
 unfolding badAlgorithm

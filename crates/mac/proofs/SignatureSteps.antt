@@ -11,7 +11,7 @@ use borrow.Author.Tests.{eqb-true, eqb-false}
 use Rattle.answer.specs.declared.Answer.{Answer}
 use Rattle.answer.specs.Answer.{accepted, refused, _orElse_}
 use Rattle.answer.proofs.Chain.{or-else-first, or-else-second}
-use Rattle.dataset.specs.Bytes.{between}
+use Rattle.slices.specs.Lists.{between}
 use Rattle.dataset.specs.Tree.{Elements}
 use Rattle.dataset.specs.Reading.{Reading, fault, read, sizeLimit, dataSet, answerOf, treeOf}
 use Rattle.dataset.proofs.Steps.{data-set-is, data-set-over}

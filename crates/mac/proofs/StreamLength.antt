@@ -4,7 +4,7 @@ use mathlib.Core.Bool.{Bool, true, false}
 use mathlib.Core.List.{List, [], _∷_, _++_}
 use native.Mathlib.Omega.{arith}
 use lib.ListN.{length, length-append, length-take}
-use Rattle.dataset.specs.Bytes.{between}
+use Rattle.slices.specs.Lists.{between}
 use Rattle.dataset.specs.Reading.{deeper}
 use Rattle.dataset.specs.Tree.{Span, Element, value, sequence, fragments, Elements, none, and, Items, last, item, tagOf}
 use Rattle.dataset.proofs.Bounds.{value-start}

@@ -30,7 +30,7 @@ use Rattle.mac.specs.declared.modes.SignatureItem.{SignatureItem}
 use Rattle.mac.specs.declared.modes.SignatureItem.the-variants as signatureItem
 use Rattle.mac.specs.declared.writer.Written.{Written}
 use Rattle.mac.specs.declared.writer.Written.the-variants as written
-use Rattle.mac.proofs.OutputSteps.{sets-append}
+use Rattle.slices.proofs.Writing.{sets-append}
 use Rattle.mac.proofs.OwnElements.{own-no-longer}
 
 -- a fault of a data set in an extent has a number that is not 0

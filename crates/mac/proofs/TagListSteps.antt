@@ -11,12 +11,12 @@ use lib.ListN.{length, drop, getD, length-drop}
 use lib.Dec.{ltb}
 use borrow.Author.Tests.{lt-ltb, le-ltb, le-leb, eq-eqb, ne-eqb}
 use Rattle.answer.specs.declared.Answer.{Answer}
-use Rattle.answer.specs.If.{if_then_else_}
+use Rattle.slices.specs.If.{if_then_else_}
 use Rattle.answer.specs.Answer.{accepted, refused, _orElse_}
 use Rattle.dataset.specs.Bytes.{num16, tagAt, tagIn, tagCase}
 use Rattle.dataset.specs.declared.bytes.TagIn.{TagIn}
 use Rattle.dataset.specs.declared.bytes.TagIn.the-variants as tagEnum
-use Rattle.mac.proofs.OutputSteps.{drop-one}
+use Rattle.slices.proofs.Parts.{drop-one}
 use Rattle.mac.specs.TagList.{barred, tagsIn, badSize, ascendingAnswer, unbarredAnswer, listAnswer}
 
 -- ---- the tags from an index on

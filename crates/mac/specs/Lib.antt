@@ -1,4 +1,3 @@
-pub mod Bytes
 pub mod TagList
 pub mod Content
 pub mod Stream

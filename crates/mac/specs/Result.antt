@@ -8,12 +8,11 @@ use mathlib.Core.Option.{Option, some}
 use mathlib.Core.Option as Opt
 use lib.Dec.{eqb}
 use lib.ListN.{length, drop}
-use Rattle.answer.specs.If.{if_then_else_}
+use Rattle.slices.specs.If.{if_then_else_}
 use Rattle.answer.specs.declared.Answer.{Answer}
-use Rattle.dataset.specs.Bytes.{OfBytes}
+use Rattle.slices.specs.Lists.{OfBytes, sameBytes}
 use Rattle.digest.specs.Message.{digestOf}
 use Rattle.digest.specs.Sha256.{sha256}
-use Rattle.mac.specs.Bytes.{sameBytes}
 use Rattle.mac.specs.declared.verdict.Verdict.{Verdict}
 use Rattle.mac.specs.declared.verdict.Verdict.the-variants as verdict
 use Rattle.mac.specs.declared.verdict.Checked.{Checked}

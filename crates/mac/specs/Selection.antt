@@ -8,12 +8,11 @@ use mathlib.Core.Option.{Option, some}
 use mathlib.Core.Option as Opt
 use lib.Dec.{eqb}
 use lib.ListN.{length, take, drop, getD}
-use Rattle.answer.specs.If.{if_then_else_}
-use Rattle.dataset.specs.Bytes.{between}
+use Rattle.slices.specs.If.{if_then_else_}
+use Rattle.slices.specs.Lists.{between, sameBytes, allAre}
 use Rattle.dataset.specs.Vr.{AT, CS, UI, US}
 use Rattle.dataset.specs.Tree.{Element, Elements, Items}
 use Rattle.dataset.specs.Lookup.{elementOf}
-use Rattle.mac.specs.Bytes.{sameBytes}
 use Rattle.mac.specs.declared.signature_mode.Signature.{Signature}
 use Rattle.mac.specs.declared.signature_mode.Signature.the-variants as signature
 
@@ -127,13 +126,9 @@ badTransferSyntax uid (some value) =
 abbrev pub SHA256 : List ℕ
 SHA256 = 0x53 ∷ 0x48 ∷ 0x41 ∷ 0x32 ∷ 0x35 ∷ 0x36 ∷ []
 
-unfoldable pub onlySpaces : List ℕ → Bool
-onlySpaces [] = true
-onlySpaces (b ∷ rest) = eqb b 0x20 && onlySpaces rest
-
 -- a Defined Term, "spaces at its end aside" (22): its bytes, and after them spaces alone (leading spaces are not ignored)
 unfoldable pub isTerm : (term value : List ℕ) → Bool
-isTerm term value = sameBytes (take (length term) value) term && onlySpaces (drop (length term) value)
+isTerm term value = sameBytes (take (length term) value) term && allAre 0x20 (drop (length term) value)
 
 -- 22: "(0400,0015) is absent, is not CS, or is not SHA256, spaces at its end aside" (9.3)
 unfoldable pub badAlgorithm : Option (List ℕ) → Bool

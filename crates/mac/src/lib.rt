@@ -8,8 +8,7 @@
 // own                        the signature item's own elements
 // writer                     the walk that reads, finds UN, measures and writes: over keep (which elements) and output (bytes into it)
 // verdict                    9; same or differs
-// bytes, extent              lists of bytes; where a data set or items lie
-mod bytes;
+// extent                     where a data set or items lie
 mod extent;
 mod keep;
 pub mod list_mode;

@@ -1,37 +1,18 @@
 // Bytes into the output. What does not fit is not written.
 ghost use mathlib.Core.Path.{_≡_};
 ghost use mathlib.Core.List.{[], _∷_};
-ghost use Prim.Native.Nat.{_<_, _≤_};
+ghost use Prim.Native.Nat.{_≤_};
 ghost use lib.ListN.{length};
 ghost use lib.Seq.{sets};
-ghost use Rattle.dataset.specs.Bytes.{between};
+ghost use Rattle.slices.specs.Lists.{between};
 ghost use Rattle.mac.specs.Stream.{itemTagBytes, sequenceDelimiterBytes};
-
-// The lesser of two numbers.
-fn lesser(a: usize, b: usize) -> usize
-    ensures { λ r. ⌜ (r ≤ a) × (r ≤ b) × ((r < a) → r ≡ b) ⌝ }
-{
-    if a < b {
-        return a;
-    }
-    b
-}
 
 // Copies the bytes of d from `from` up to `end` to the output, from `to` on.
 pub(crate) fn copy(d: &[u8], from: usize, end: usize, out: &mut [u8], to: usize)
     requires { ⌜ (from ≤ end) × (end ≤ length (now d)) ⌝ }
     ensures { λ _. ⌜ now (out .exit) ≡ sets (now (out .entry)) to (between (now (d .entry)) from end) ⌝ }
 {
-    let size = out.len();
-    if size <= to {
-        return;
-    }
-    let count = lesser(end - from, size - to);
-    let mut i = 0;
-    while i < count {
-        out[to + i] = d[from + i];
-        i += 1;
-    }
+    slices::copy(&d[from..end], out, to);
 }
 
 // Puts a tag of group FFFE by its third byte.
@@ -39,7 +20,7 @@ fn put_tag(out: &mut [u8], to: usize, third: u8)
     ensures { λ _. ⌜ now (out .exit) ≡ sets (now (out .entry)) to (0xFE ∷ 0xFF ∷ third ∷ 0xE0 ∷ []) ⌝ }
 {
     let bytes = [0xFE, 0xFF, third, 0xE0];
-    copy(&bytes, 0, 4, out, to);
+    slices::copy(&bytes, out, to);
 }
 
 // Puts an item's tag.

@@ -1,5 +1,4 @@
 // What signature mode selects, 18 to 23: the signature item, and the list of its MAC parameters item.
-use crate::bytes;
 use crate::extent::Extent;
 use crate::seek;
 use crate::seek::Place;
@@ -17,7 +16,7 @@ ghost use lib.ListN.{length};
 ghost use Rattle.dataset.specs.Vr.{US};
 ghost use mathlib.Core.Option.{some};
 ghost use Rattle.answer.specs.Answer as Spec;
-ghost use Rattle.mac.specs.Selection.{badTransferSyntax, SHA256, onlySpaces, isTerm};
+ghost use Rattle.mac.specs.Selection.{badTransferSyntax, SHA256, isTerm};
 ghost use Rattle.mac.specs.Inner.Extent.{Lies, elementsIn, itemsIn};
 ghost use Rattle.mac.specs.Inner.Seek.{PlaceLies, Located};
 ghost use Rattle.mac.specs.Inner.Selection.{SameMacId, KeyLies, TestsKey, FoundItemIn, FoundItemUnder, LessNul, BadSyntax, BadAlgorithm, ListOf, SelectOf, SelectedIn};
@@ -85,7 +84,7 @@ fn same_mac_id(d: &[u8], p: Place, start: usize, end: usize) -> bool
     if !is_mac_id(vr, from, to) {
         return false;
     }
-    bytes::same_bytes(&d[from..to], &d[start..end])
+    slices::same(&d[from..to], &d[start..end])
 }
 
 // Whether the item with this number from 0, whose MAC ID Number stands in this place, has the key.
@@ -176,13 +175,13 @@ fn bad_uid(uid: &[u8], value: &[u8]) -> bool
         return true;
     }
     let n = less_nul(value);
-    if !bytes::same_bytes(&value[..n], uid) {
+    if !slices::same(&value[..n], uid) {
         return true;
     }
-    if bytes::same_bytes(&value[..n], b"1.2.840.10008.1.2") {
+    if slices::same(&value[..n], b"1.2.840.10008.1.2") {
         return true;
     }
-    bytes::same_bytes(&value[..n], b"1.2.840.10008.1.2.2")
+    slices::same(&value[..n], b"1.2.840.10008.1.2.2")
 }
 
 // 21: whether the transfer syntax in this place is refused.
@@ -199,20 +198,6 @@ fn bad_syntax(uid: &[u8], d: &[u8], p: Place) -> bool
     bad_uid(uid, &d[start..end])
 }
 
-// Whether all bytes are spaces.
-fn only_spaces(s: &[u8]) -> bool
-    ensures { λ r. ⌜ r ≡ onlySpaces (now (s .entry)) ⌝ }
-{
-    let mut i = 0;
-    while i < s.len() {
-        if s[i] != 0x20 {
-            return false;
-        }
-        i += 1;
-    }
-    true
-}
-
 // Whether a value is SHA256, spaces at its end aside.
 fn is_sha256(value: &[u8]) -> bool
     ensures { λ r. ⌜ r ≡ isTerm SHA256 (now (value .entry)) ⌝ }
@@ -220,10 +205,10 @@ fn is_sha256(value: &[u8]) -> bool
     if value.len() < 6 {
         return false;
     }
-    if !bytes::same_bytes(&value[..6], b"SHA256") {
+    if !slices::same(&value[..6], b"SHA256") {
         return false;
     }
-    only_spaces(&value[6..])
+    slices::all_are(&value[6..], 0x20)
 }
 
 // 22: whether the algorithm in this place is refused.

@@ -1,5 +1,4 @@
 // What a check says.
-use crate::bytes;
 use answer::Answer;
 use digest::message;
 ghost use mathlib.Core.Path.{_≡_};
@@ -34,7 +33,7 @@ pub(crate) fn bad_digest_length(expected: &[u8]) -> bool
 fn verdict_of(digest: &[u8], expected: &[u8]) -> Verdict
     ensures { λ r. ⌜ verdictCode r ≡ compared (some (now (expected .entry))) (now (digest .entry)) ⌝ }
 {
-    if bytes::same_bytes(digest, expected) {
+    if slices::same(digest, expected) {
         return Verdict::Same;
     }
     Verdict::Differs

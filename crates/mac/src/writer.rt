@@ -16,7 +16,7 @@ ghost use Prim.Native.Nat.{_+_, _<_, _≤_};
 ghost use lib.Dec.{eqb};
 ghost use lib.ListN.{length};
 ghost use lib.Seq.{sets};
-ghost use Rattle.dataset.specs.Bytes.{between};
+ghost use Rattle.slices.specs.Lists.{between};
 ghost use Rattle.dataset.specs.Header.{elementCase};
 ghost use Rattle.dataset.specs.Vr.{UN};
 ghost use Rattle.mac.specs.Stream.{itemTagBytes};

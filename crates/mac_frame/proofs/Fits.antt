@@ -10,12 +10,12 @@ use borrow.Author.Tests.{eq-eqb, ne-eqb, eqb-true}
 use lib.Dec.{eqb}
 use lib.ListN.{length, length-append}
 use Rattle.answer.specs.declared.Answer.{Answer}
-use Rattle.answer.specs.If.{if_then_else_}
+use Rattle.slices.specs.If.{if_then_else_}
 use Rattle.answer.specs.Answer.{refused}
 use Rattle.mac.specs.TagList.{tagsIn}
 use Rattle.mac.specs.ListMode.{Call, answer, stream, result}
 use Rattle.mac.specs.Result.{isAccepted}
-use Rattle.mac.proofs.Slices.{length-between}
+use Rattle.slices.proofs.Parts.{length-between}
 use Rattle.mac_theorems.specs.Calls.{inListMode}
 use Rattle.mac_theorems.specs.Theorems.{Positioned}
 use Rattle.mac_theorems.proofs.Theorems as mac

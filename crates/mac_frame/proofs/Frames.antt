@@ -7,8 +7,8 @@ use native.Mathlib.Nat.{add-zero}
 use native.Mathlib.Omega.{arith}
 use lib.ListN.{length, getD, take, drop, length-append, length-drop, List·getD-append}
 use lib.Seq.{take-at, drop-at, take-all, take-add, drop-drop, drop-cons, getD-take, getD-drop, getD-append-add}
-use Rattle.dataset.specs.Bytes.{between}
-use Rattle.mac.proofs.Slices.{length-between}
+use Rattle.slices.specs.Lists.{between}
+use Rattle.slices.proofs.Parts.{length-between}
 use Rattle.mac_frame.specs.Frame.{inputLimit, big32, frameOf, frameCall}
 use Rattle.mac_frame.specs.Theorems.{Framed, callOf, ReadBack}
 use Rattle.mac_frame.specs.declared.frame.Frame.the-variants as frame

@@ -12,12 +12,11 @@ use borrow.Author.Tests.{lt-ltb, le-ltb, eq-eqb, ne-eqb}
 use lib.Dec.{eqb}
 use lib.ListN.{length, drop, getD, length-append, length-drop, drop-of-length-le}
 use lib.Seq.{sets, length-sets, drop-cons}
-use Rattle.answer.specs.If.{if_then_else_}
+use Rattle.slices.specs.If.{if_then_else_}
 use Rattle.answer.specs.declared.Answer.{Answer}
-use Rattle.mac_frame.specs.Text.{space, newline, digit, decimalBy, decimal, decimalThen, line}
-use Rattle.mac_frame.specs.Text.{hex, isEmpty, lineEnd, hexFrom, hexLines}
+use Rattle.mac_frame.specs.Text.{space, newline, digit, decimalBy, decimal, decimalThen, line, hex, isEmpty, lineEnd, hexFrom, hexLines}
 use Rattle.mac_frame.specs.Inner.Wrote.{Wrote}
-use Rattle.mac.proofs.OutputSteps.{sets-append}
+use Rattle.slices.proofs.Writing.{sets-append}
 
 -- one piece after another
 pub wrote-then : (text mid after : List ℕ) (at next r : ℕ) (xs ys : List ℕ) → Wrote text at xs next mid → Wrote mid next ys r after

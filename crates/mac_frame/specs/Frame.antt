@@ -8,9 +8,9 @@ use mathlib.Core.Option as Opt
 use lib.Dec.{eqb, ltb}
 use lib.ListN.{length, getD}
 use lib.Seq.{sets}
-use Rattle.answer.specs.If.{if_then_else_}
+use Rattle.slices.specs.If.{if_then_else_}
 use Rattle.answer.specs.Answer.{refused}
-use Rattle.dataset.specs.Bytes.{between}
+use Rattle.slices.specs.Lists.{between}
 use Rattle.mac.specs.Result.{isAccepted}
 use Rattle.mac.specs.ListMode.{Call, answer, stream, result}
 use Rattle.mac_frame.specs.Text.{line, hexLines}

@@ -4,9 +4,9 @@ use mathlib.Core.Path.{_≡_, sym, ap, ap₂, _∙_}
 use mathlib.Core.List.{List, [], _∷_, _++_}
 use native.Mathlib.Omega.{arith}
 use lib.ListN.{length, getD}
-use Rattle.dataset.specs.Bytes.{num16, num32, tagAt, vrAt, between}
-use Rattle.dataset.specs.Bytes.{OfBytes}
-use Rattle.mac.proofs.OutputSteps.{drop-one}
+use Rattle.dataset.specs.Bytes.{num16, num32, tagAt, vrAt}
+use Rattle.slices.specs.Lists.{between, OfBytes}
+use Rattle.slices.proofs.Parts.{drop-one}
 
 -- the two and the four bytes of a number, low byte first
 abbrev pub bytes16 : ℕ → List ℕ

@@ -11,12 +11,12 @@ use lib.Dec.{eqb}
 use lib.ListN.{length, take}
 use borrow.Author.Tests.{eqb-true, eqb-false, eq-eqb}
 use Rattle.answer.specs.declared.Answer.{Answer}
-use Rattle.answer.specs.If.{if_then_else_}
+use Rattle.slices.specs.If.{if_then_else_}
 use Rattle.answer.specs.Answer.{_orElse_}
 use Rattle.dataset.proofs.Guarantees.{DataSetIs, data-set-read}
 use Rattle.digest.specs.Message.{digestOf}
 use Rattle.digest.specs.Sha256.{sha256}
-use Rattle.dataset.specs.Bytes.{OfBytes}
+use Rattle.slices.specs.Lists.{OfBytes}
 use Rattle.dataset.proofs.Theorems.{well-formed-accepted, accepted-well-formed}
 use Rattle.dataset.specs.Reading.{answerOf, tree}
 use Rattle.mac.specs.TagList.{tagsIn, listAnswer}

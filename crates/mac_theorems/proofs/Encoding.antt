@@ -5,8 +5,9 @@ use mathlib.Core.Bool.{Bool, true, false}
 use mathlib.Core.List.{List, [], _∷_, _++_}
 use native.Mathlib.Omega.{arith}
 use lib.ListN.{length}
-use Rattle.dataset.specs.Bytes.{num16, num32, tagAt, vrAt, between}
-use Rattle.answer.specs.If.{if_then_else_}
+use Rattle.dataset.specs.Bytes.{num16, num32, tagAt, vrAt}
+use Rattle.slices.specs.Lists.{between, OfBytes}
+use Rattle.slices.specs.If.{if_then_else_}
 use Rattle.dataset.specs.Vr.{SQ, OB, shortForm, longForm, oneOf, formOf}
 use Rattle.dataset.specs.Reading.{deeper}
 use Rattle.dataset.specs.Tree.{Span, Element, Elements, Items, tagOf}
@@ -15,8 +16,7 @@ use Rattle.dataset.proofs.Lies.{ElementLies, ElementsLie, ItemsLie}
 use Rattle.mac.specs.TagList.{barred, unlessBarred}
 use Rattle.mac.specs.Content.{SignedElement, SignedElements, SignedItems, fragmentBytes, signed, signedElements, signedItems}
 use Rattle.mac.specs.Stream.{itemTagBytes, sequenceDelimiterBytes, fragmentsStream, streamOf, elementsStream, itemsStream}
-use Rattle.dataset.specs.Bytes.{OfBytes}
-use Rattle.mac.proofs.Slices.{length-between}
+use Rattle.slices.proofs.Parts.{length-between}
 use Rattle.mac_theorems.proofs.ByteSlices.{bytes16, bytes32, tagBytes, vrBytes, between-none, header-front, long-front}
 
 -- a VR of the short form; every other is of the long form

@@ -1,9 +1,10 @@
 -- The starred examples, all at once, and the signed contents of 5, 6 and 9: both sides are computed. Assumes nothing.
 use mathlib.Core.Path.{refl}
 use mathlib.Core.Bool.{true≢false}
-use Rattle.answer.specs.If.{if_then_else_}
+use Rattle.slices.specs.If.{if_then_else_}
 use Rattle.answer.specs.Answer.{_orElse_}
-use Rattle.dataset.specs.Bytes.{num16, num32, tagAt, vrAt, between}
+use Rattle.dataset.specs.Bytes.{num16, num32, tagAt, vrAt}
+use Rattle.slices.specs.Lists.{between}
 use Rattle.dataset.specs.Vr.{formOf, oneOf}
 use Rattle.dataset.specs.Header.{endsAt, closedBy, badLength, tooDeep, undefinedBy, definedBy, valueBy, longAt, byForm, vrOnAt, elementAt, itemBy, itemAt}
 use Rattle.dataset.specs.Reading.{byHeader, byOne, byItem, byFragment, fragmentsBy, elementsBy, elementsAt, dataSet}

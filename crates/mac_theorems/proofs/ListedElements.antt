@@ -6,7 +6,7 @@ use mathlib.Core.List.{List, [], _∷_}
 use mathlib.Core.Option.{Option, some}
 use mathlib.Core.Option as Opt
 use native.Mathlib.Omega.{arith}
-use Rattle.answer.specs.If.{if_then_else_}
+use Rattle.slices.specs.If.{if_then_else_}
 use Rattle.answer.specs.Answer.{accepted, refused}
 use Rattle.answer.proofs.Chain.{both-accepted}
 use Rattle.dataset.specs.Tree.{Element, Elements}

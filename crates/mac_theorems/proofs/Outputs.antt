@@ -6,7 +6,7 @@ use mathlib.Core.List.{List, _++_}
 use native.Mathlib.Omega.{arith}
 use lib.ListN.{length, take, drop, length-append, length-drop}
 use lib.Seq.{take-at, drop-at}
-use Rattle.answer.specs.If.{if_then_else_}
+use Rattle.slices.specs.If.{if_then_else_}
 use Rattle.mac.specs.Result.{Result, isAccepted, outputAfter}
 
 pub output-refused : (c : Result) (out : List ℕ) → isAccepted c ≡ false → outputAfter c out ≡ out

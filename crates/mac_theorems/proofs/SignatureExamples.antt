@@ -1,8 +1,9 @@
 -- The examples of signature mode, all at once: both lists are computed. Assumes nothing.
 use mathlib.Core.Path.{refl}
-use Rattle.answer.specs.If.{if_then_else_}
+use Rattle.slices.specs.If.{if_then_else_}
 use Rattle.answer.specs.Answer.{_orElse_}
-use Rattle.dataset.specs.Bytes.{num16, num32, tagAt, vrAt, between}
+use Rattle.dataset.specs.Bytes.{num16, num32, tagAt, vrAt}
+use Rattle.slices.specs.Lists.{between, sameBytes, allAre}
 use Rattle.dataset.specs.Vr.{formOf, oneOf}
 use Rattle.dataset.specs.Header.{endsAt, closedBy, badLength, tooDeep, undefinedBy, definedBy, valueBy, longAt, byForm, vrOnAt, elementAt, itemBy, itemAt}
 use Rattle.dataset.specs.Reading.{byHeader, byOne, byItem, elementsBy, elementsAt, dataSet, deeper}
@@ -11,12 +12,11 @@ use Rattle.mac.specs.TagList.{tagsIn, barred, badSize, ascendingAnswer, unbarre
 use Rattle.mac.specs.Stream.{streamOf, listedStream}
 use Rattle.mac.specs.UN.{holdsUN}
 use Rattle.mac.specs.Modes.{elementAnswer, tagsAnswer, answerFrom13}
-use Rattle.mac.specs.Bytes.{sameBytes}
 use Rattle.mac.specs.Result.{outputAfter}
-use Rattle.mac.specs.Selection.{valueOf, firstItem, signatureItem, macIdOf, parametersItem, lessNul, badTransferSyntax, onlySpaces, isTerm, badAlgorithm, parametersSelect, select}
+use Rattle.mac.specs.Selection.{valueOf, firstItem, signatureItem, macIdOf, parametersItem, lessNul, badTransferSyntax, isTerm, badAlgorithm, parametersSelect, select}
 use Rattle.mac.specs.SignatureMode.{named, leftOut, own, streamBy, answerBy, stream, answer}
 use Rattle.mac_theorems.specs.SignatureExamples.{examples, SignatureExamplesHold}
 
 pub signature-examples-hold : SignatureExamplesHold
-unfolding examples answer answerBy streamBy own leftOut named select parametersSelect badAlgorithm isTerm onlySpaces badTransferSyntax lessNul parametersItem macIdOf signatureItem firstItem valueOf sameBytes answerFrom13 outputAfter stream _orElse_ if_then_else_ listAnswer badSize ascendingAnswer unbarredAnswer barred tagsIn tagsAnswer elementAnswer holdsUN listedStream streamOf elementOf dataSet elementsAt elementsBy byHeader byOne byItem deeper elementAt vrOnAt byForm longAt badLength tooDeep undefinedBy definedBy valueBy itemAt itemBy endsAt closedBy formOf oneOf num16 num32 tagAt vrAt between
+unfolding examples answer answerBy streamBy own leftOut named select parametersSelect badAlgorithm isTerm allAre badTransferSyntax lessNul parametersItem macIdOf signatureItem firstItem valueOf sameBytes answerFrom13 outputAfter stream _orElse_ if_then_else_ listAnswer badSize ascendingAnswer unbarredAnswer barred tagsIn tagsAnswer elementAnswer holdsUN listedStream streamOf elementOf dataSet elementsAt elementsBy byHeader byOne byItem deeper elementAt vrOnAt byForm longAt badLength tooDeep undefinedBy definedBy valueBy itemAt itemBy endsAt closedBy formOf oneOf num16 num32 tagAt vrAt between
 signature-examples-hold = refl

@@ -10,7 +10,7 @@ use lib.Dec.{ltb}
 use lib.ListN.{length, length-append}
 use borrow.Author.Tests.{lt-ltb, ltb-true}
 use Rattle.answer.specs.declared.Answer.{Answer}
-use Rattle.answer.specs.If.{if_then_else_}
+use Rattle.slices.specs.If.{if_then_else_}
 use Rattle.answer.specs.Answer.{accepted, refused, _orElse_}
 use Rattle.answer.proofs.Chain.{or-else-first, or-else-second, or-else-assoc}
 use Rattle.dataset.specs.Tree.{Elements}

@@ -8,12 +8,12 @@ use mathlib.Core.Option.{Option, some}
 use native.Mathlib.Omega.{arith}
 use lib.Dec.{eqb}
 use borrow.Author.Tests.{eqb-true, eq-eqb}
-use Rattle.answer.specs.If.{if_then_else_}
+use Rattle.slices.specs.If.{if_then_else_}
 use Rattle.dataset.proofs.Bools.{both}
 use Rattle.digest.specs.Message.{digestOf}
 use Rattle.digest.specs.Sha256.{sha256}
 use Rattle.mac.specs.Result.{Result, isAccepted, neither, same, differs, compared, verdictOf}
-use Rattle.mac.specs.Bytes.{sameBytes}
+use Rattle.slices.specs.Lists.{sameBytes}
 use Rattle.mac_theorems.specs.Theorems.{Says}
 
 -- ---- the comparison

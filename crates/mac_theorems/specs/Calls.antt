@@ -6,7 +6,7 @@ use mathlib.Core.Path.{_≡_}
 use mathlib.Core.List.{List, []}
 use lib.ListN.{length}
 use Rattle.answer.specs.declared.Answer.{Answer}
-use Rattle.dataset.specs.Bytes.{OfBytes}
+use Rattle.slices.specs.Lists.{OfBytes}
 use Rattle.mac.specs.Result.{Result, neither, verdictCode, verdictOf, outputAfter, Streamed, CheckedAs}
 use Rattle.mac.specs.ListMode as listMode
 use Rattle.mac.specs.Selection.{Selection, refusal, selected}

@@ -2,7 +2,7 @@
 -- of one element makes of it, and what is found after one element more. Assumes nothing.
 use Prim.Native.Nat.{ℕ, _-_, _≤_}
 use mathlib.Core.Bool.{Bool}
-use Rattle.answer.specs.If.{if_then_else_}
+use Rattle.slices.specs.If.{if_then_else_}
 use Rattle.dataset.specs.Tree.{tagOf, vrOf, spanOf}
 use Rattle.dataset.specs.Reading.{Reading, fault, read, One, ended, element}
 use Rattle.dataset.specs.declared.lookup.Found.{Found}

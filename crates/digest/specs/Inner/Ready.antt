@@ -4,11 +4,11 @@ use mathlib.Core.Path.{_≡_}
 use mathlib.Core.Bool.{true}
 use lib.ListN.{drop}
 use Rattle.digest.specs.Message.{limit}
-use Rattle.digest.specs.Running.{allZero}
+use Rattle.slices.specs.Lists.{allAre}
 use Rattle.digest.specs.declared.running.Running.{Running}
 
 -- `accepts s n` as facts
 pub record Ready (s : Running) (n : ℕ) : Type 0 where
   pub counted : s .count ≡ s .total % 64
-  pub empty : allZero (drop (s .count) (s .waiting)) ≡ true
+  pub empty : allAre 0 (drop (s .count) (s .waiting)) ≡ true
   pub within : s .total + n ≤ limit

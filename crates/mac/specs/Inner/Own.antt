@@ -3,7 +3,7 @@
 use Prim.Native.Nat.{ℕ}
 use mathlib.Core.Bool.{_||_}
 use mathlib.Core.List.{List}
-use Rattle.answer.specs.If.{if_then_else_}
+use Rattle.slices.specs.If.{if_then_else_}
 use Rattle.dataset.specs.Tree.{Elements}
 use Rattle.mac.specs.Inner.Extent.{elementsIn}
 use Rattle.mac.specs.Inner.Writer.{walked, holdsNone, Walk}

@@ -9,7 +9,7 @@ use mathlib.Core.Option as Opt
 use lib.Dec.{eqb}
 use lib.ListN.{length, take}
 use Rattle.answer.specs.Answer.{refused}
-use Rattle.dataset.specs.Bytes.{between}
+use Rattle.slices.specs.Lists.{between}
 use Rattle.dataset.specs.Vr.{CS, UI, US}
 use Rattle.dataset.specs.Tree.{Element, Elements, Items}
 use Rattle.dataset.specs.Reading.{Reading, fault, read}

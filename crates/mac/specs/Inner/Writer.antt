@@ -8,7 +8,7 @@ use mathlib.Core.Bool.{Bool, false}
 use mathlib.Core.List.{List, []}
 use lib.ListN.{length}
 use lib.Seq.{sets}
-use Rattle.answer.specs.If.{if_then_else_}
+use Rattle.slices.specs.If.{if_then_else_}
 use Rattle.dataset.specs.Header.{ElementHeader, elementAt}
 use Rattle.dataset.specs.Tree.{Element, tagOf}
 use Rattle.dataset.specs.Reading.{Reading, fault, read, One, ended, element, explicit, byHeader, elementsAt, itemsAt, fragmentsAt, oneAt}

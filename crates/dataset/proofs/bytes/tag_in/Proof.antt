@@ -8,7 +8,7 @@ use mathlib.Core.List.{List}
 use mathlib.Core.Option.{some}
 use mathlib.Core.Option as Opt
 use lib.ListN.{length}
-use Rattle.answer.specs.If.{if_then_else_}
+use Rattle.slices.specs.If.{if_then_else_}
 use Rattle.dataset.specs.Bytes.{tagAt, tagIn}
 use Rattle.dataset.proofs.bytes.tag_in.Statement.{statement}
 use Rattle.dataset.proofs.bytes.tag_in.Tie as tie

@@ -1,6 +1,6 @@
 -- `lookup` meets its contract: it takes apart what `find` ensures. Assumes nothing.
 use Rattle.dataset.proofs.LookupSteps as steps
-use Rattle.dataset.specs.Bytes.{between}
+use Rattle.slices.specs.Lists.{between}
 use mathlib.Core.Path.{refl, ap}
 use Rattle.dataset.specs.declared.lookup.Found.{Found}
 use Prim.Native.Nat.{_+_}

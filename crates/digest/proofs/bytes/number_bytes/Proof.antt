@@ -1,7 +1,7 @@
 use native.Mathlib.Omega.{arith}
 use Prim.Native.Nat.{_/_}
 use mathlib.Core.Path.{_≡_, refl}
-use Rattle.digest.specs.Lists.{tabulate}
+use Rattle.slices.specs.Lists.{tabulate}
 use Rattle.digest.specs.Padding.{byteOf, bytesOf}
 use borrow.Author.Needs.{needs}
 use Rattle.digest.proofs.bytes.number_bytes.Statement.{statement}

@@ -3,7 +3,7 @@ use Prim.Native.Nat.{_/_, _%_}
 use mathlib.Core.Path.{_≡_, refl, sym, _∙_}
 use lib.Seq.{take-all}
 use lib.ListN.{take}
-use Rattle.digest.specs.Lists.{at, tabulate}
+use Rattle.slices.specs.Lists.{at, tabulate}
 use Rattle.digest.specs.Padding.{bigEndian, byteOf, wordBytes}
 use Rattle.digest.proofs.Tables.{tabulate-next}
 use borrow.Author.Needs.{needs}

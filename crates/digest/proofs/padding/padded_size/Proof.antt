@@ -1,5 +1,5 @@
 use borrow.Author.Tests.{lt-ltb, le-ltb}
-use Rattle.answer.specs.If.{if_then_else_}
+use Rattle.slices.specs.If.{if_then_else_}
 use Rattle.digest.proofs.padding.padded_size.Statement.{statement}
 use Rattle.digest.proofs.padding.padded_size.Tie as tie
 

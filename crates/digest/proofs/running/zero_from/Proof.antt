@@ -1,52 +1,23 @@
-use native.Mathlib.Omega.{arith}
-use mathlib.Core.Path.{_≡_, refl, sym, ap, _∙_}
-use lib.ListN.{drop, drop-of-length-le}
-use Rattle.digest.specs.Running.{allZero}
-use Rattle.digest.proofs.Zeros.{zero-next, zero-not}
+use Rattle.digest.proofs.Zeros.{zeros-from}
 use borrow.Author.Needs.{needs}
-use Prim.Native.Nat.{_-_, _≤_}
-use lib.ListN.{length}
 use Rattle.digest.proofs.running.zero_from.Statement.{statement}
 use Rattle.digest.proofs.running.zero_from.Tie as tie
 
-abbrev Inv-loop : tie.InvT-loop
-Inv-loop from bytes i₀ i = (i ≤ 64) × (length bytes ≡ 64) × (allZero (drop from bytes) ≡ allZero (drop i bytes))
+sub-all-are : tie.Need-sub-all-are
+sub-all-are c = search needs
 
-abbrev μ-loop : tie.MeasureT-loop
-μ-loop from bytes i₀ i = 64 - i
+part-all-are-start : tie.Need-part-all-are-start
+part-all-are-start c = search needs
 
-loop-holds : tie.Need-loop-holds Inv-loop μ-loop
-loop-holds c = (search needs, search needs, refl)
+part-all-are-end : tie.Need-part-all-are-end
+part-all-are-end c = search needs
 
-array-read-if1 : tie.Need-array-read-if1 Inv-loop μ-loop
-array-read-if1 c = search needs
+all-are-requires : tie.Need-all-are-requires
+all-are-requires c κs = search needs
 
-returns : tie.Need-returns Inv-loop μ-loop
-returns c = sym (c .before .before .loop .inv .2 ∙ zero-not _ (c .before .before .loop .i) (search needs) (c .if1 .taken))
-
-add-i : tie.Need-add-i Inv-loop μ-loop
-add-i c = search needs
-
-loop-less : tie.Need-loop-less Inv-loop μ-loop
-loop-less c = search needs
-
-loop-again : tie.Need-loop-again Inv-loop μ-loop
-loop-again c = (search needs, search needs, c .before .before .loop .inv .2 ∙ zero-next _ (c .before .before .loop .i) (search needs) (c .if1 .left))
-
-returns-2 : tie.Need-returns-2 Inv-loop μ-loop
-unfolding allZero
-returns-2 c = sym (c .before .loop .inv .2 ∙ ap allZero (drop-of-length-le _ {i = c .before .loop .i} (omega arith)))
+returns : tie.Need-returns
+returns c = search zeros-from
 
 pub zero-from-spec : {M : Type 1} → statement M
 zero-from-spec =
-    tie.close
-    (tie.spec
-    Inv-loop
-    μ-loop
-    loop-holds
-    array-read-if1
-    returns
-    add-i
-    loop-less
-    loop-again
-    returns-2)
+    tie.close (tie.spec sub-all-are part-all-are-start part-all-are-end all-are-requires returns)

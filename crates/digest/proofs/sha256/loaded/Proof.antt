@@ -1,7 +1,7 @@
 use native.Mathlib.Omega.{arith}
 use mathlib.Core.Path.{_≡_, refl}
 use lib.ListN.{take}
-use Rattle.digest.specs.Lists.{tabulate}
+use Rattle.slices.specs.Lists.{tabulate}
 use Rattle.digest.specs.Sha256.{wordOf}
 use Rattle.digest.proofs.Tables.{tabulate-next}
 use borrow.Author.Needs.{needs}

@@ -1,6 +1,6 @@
 use Prim.Native.Nat.{ℕ, _+_, _-_, _%_, _^_}
 use mathlib.Core.Path.{ap₂, _∙_}
-use Rattle.digest.specs.Lists.{at}
+use Rattle.slices.specs.Lists.{at}
 use Rattle.digest.specs.Sha256.{nextWord}
 use Rattle.digest.proofs.Rounds.{sum-more}
 use borrow.Author.Needs.{needs}

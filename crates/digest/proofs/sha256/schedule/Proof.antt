@@ -3,7 +3,7 @@ use Prim.Native.Nat.{_%_}
 use mathlib.Core.Path.{_≡_, sym, _∙_}
 use lib.Seq.{take-all}
 use lib.ListN.{take, length-set}
-use Rattle.digest.specs.Lists.{tabulate}
+use Rattle.slices.specs.Lists.{tabulate}
 use Rattle.digest.specs.Sha256.{wordOf, extended, schedule}
 use Rattle.digest.proofs.Tables.{length-tabulate}
 use Rattle.digest.proofs.Rounds.{extended-next}

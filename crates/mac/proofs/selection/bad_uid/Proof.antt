@@ -11,35 +11,35 @@ returns c = search tests.uid-empty
 less-nul-requires : tie.Need-less-nul-requires
 less-nul-requires c κs = search needs
 
-slice-aggregate-same-bytes : tie.Need-slice-aggregate-same-bytes
-slice-aggregate-same-bytes c = search tests.uid-count
+slice-aggregate-same : tie.Need-slice-aggregate-same
+slice-aggregate-same c = search tests.uid-count
 
-same-bytes-requires : tie.Need-same-bytes-requires
-same-bytes-requires c κs = search needs
+same-requires : tie.Need-same-requires
+same-requires c κs = search needs
 
 returns-2 : tie.Need-returns-2
 returns-2 c = search (tests.uid-other, not-true)
 
-slice-aggregate-same-bytes-2 : tie.Need-slice-aggregate-same-bytes-2
-slice-aggregate-same-bytes-2 c = search tests.uid-count
+slice-aggregate-same-2 : tie.Need-slice-aggregate-same-2
+slice-aggregate-same-2 c = search tests.uid-count
 
-slice-aggregate-same-bytes-3 : tie.Need-slice-aggregate-same-bytes-3
-slice-aggregate-same-bytes-3 c = search needs
+slice-aggregate-same-3 : tie.Need-slice-aggregate-same-3
+slice-aggregate-same-3 c = search needs
 
-same-bytes-requires-2 : tie.Need-same-bytes-requires-2
-same-bytes-requires-2 c κs = search needs
+same-requires-2 : tie.Need-same-requires-2
+same-requires-2 c κs = search needs
 
 returns-3 : tie.Need-returns-3
 returns-3 c = search (tests.uid-implicit, not-false)
 
-slice-aggregate-same-bytes-4 : tie.Need-slice-aggregate-same-bytes-4
-slice-aggregate-same-bytes-4 c = search tests.uid-count
+slice-aggregate-same-4 : tie.Need-slice-aggregate-same-4
+slice-aggregate-same-4 c = search tests.uid-count
 
-slice-aggregate-same-bytes-5 : tie.Need-slice-aggregate-same-bytes-5
-slice-aggregate-same-bytes-5 c = search needs
+slice-aggregate-same-5 : tie.Need-slice-aggregate-same-5
+slice-aggregate-same-5 c = search needs
 
-same-bytes-requires-3 : tie.Need-same-bytes-requires-3
-same-bytes-requires-3 c κs = search needs
+same-requires-3 : tie.Need-same-requires-3
+same-requires-3 c κs = search needs
 
 returns-4 : tie.Need-returns-4
 returns-4 c = search (tests.uid-rest, not-false)
@@ -50,14 +50,14 @@ bad-uid-spec =
     (tie.spec
     returns
     less-nul-requires
-    slice-aggregate-same-bytes
-    same-bytes-requires
+    slice-aggregate-same
+    same-requires
     returns-2
-    slice-aggregate-same-bytes-2
-    slice-aggregate-same-bytes-3
-    same-bytes-requires-2
+    slice-aggregate-same-2
+    slice-aggregate-same-3
+    same-requires-2
     returns-3
-    slice-aggregate-same-bytes-4
-    slice-aggregate-same-bytes-5
-    same-bytes-requires-3
+    slice-aggregate-same-4
+    slice-aggregate-same-5
+    same-requires-3
     returns-4)

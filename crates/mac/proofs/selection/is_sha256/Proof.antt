@@ -8,29 +8,29 @@ use Rattle.mac.proofs.selection.is_sha256.Tie as tie
 returns : tie.Need-returns
 returns c = search tests.term-short
 
-slice-aggregate-same-bytes : tie.Need-slice-aggregate-same-bytes
-slice-aggregate-same-bytes c = search tests.term-count
+slice-aggregate-same : tie.Need-slice-aggregate-same
+slice-aggregate-same c = search tests.term-count
 
-slice-aggregate-same-bytes-2 : tie.Need-slice-aggregate-same-bytes-2
-slice-aggregate-same-bytes-2 c = search needs
+slice-aggregate-same-2 : tie.Need-slice-aggregate-same-2
+slice-aggregate-same-2 c = search needs
 
-same-bytes-requires : tie.Need-same-bytes-requires
-same-bytes-requires c κs = search needs
+same-requires : tie.Need-same-requires
+same-requires c κs = search needs
 
 returns-2 : tie.Need-returns-2
 returns-2 c = search (tests.term-other, not-true)
 
-sub-only-spaces : tie.Need-sub-only-spaces
-sub-only-spaces c = search needs
+sub-all-are : tie.Need-sub-all-are
+sub-all-are c = search needs
 
-part-only-spaces-start : tie.Need-part-only-spaces-start
-part-only-spaces-start c = search needs
+part-all-are-start : tie.Need-part-all-are-start
+part-all-are-start c = search needs
 
-part-only-spaces-end : tie.Need-part-only-spaces-end
-part-only-spaces-end c = search needs
+part-all-are-end : tie.Need-part-all-are-end
+part-all-are-end c = search needs
 
-only-spaces-requires : tie.Need-only-spaces-requires
-only-spaces-requires c κs = search needs
+all-are-requires : tie.Need-all-are-requires
+all-are-requires c κs = search needs
 
 returns-3 : tie.Need-returns-3
 returns-3 c = search (tests.term-spaces, not-false)
@@ -40,12 +40,12 @@ is-sha256-spec =
     tie.close
     (tie.spec
     returns
-    slice-aggregate-same-bytes
-    slice-aggregate-same-bytes-2
-    same-bytes-requires
+    slice-aggregate-same
+    slice-aggregate-same-2
+    same-requires
     returns-2
-    sub-only-spaces
-    part-only-spaces-start
-    part-only-spaces-end
-    only-spaces-requires
+    sub-all-are
+    part-all-are-start
+    part-all-are-end
+    all-are-requires
     returns-3)

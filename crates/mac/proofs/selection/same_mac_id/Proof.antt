@@ -18,26 +18,26 @@ is-mac-id-requires c κs = search places.value-order
 returns-2 : tie.Need-returns-2
 returns-2 c = search (tests.id-other, not-true)
 
-sub-same-bytes : tie.Need-sub-same-bytes
-sub-same-bytes c = search places.value-order
+sub-same : tie.Need-sub-same
+sub-same c = search places.value-order
 
-part-same-bytes-start : tie.Need-part-same-bytes-start
-part-same-bytes-start c = search places.value-order
+part-same-start : tie.Need-part-same-start
+part-same-start c = search places.value-order
 
-part-same-bytes-end : tie.Need-part-same-bytes-end
-part-same-bytes-end c = search places.value-inside
+part-same-end : tie.Need-part-same-end
+part-same-end c = search places.value-inside
 
-sub-same-bytes-2 : tie.Need-sub-same-bytes-2
-sub-same-bytes-2 c = search needs
+sub-same-2 : tie.Need-sub-same-2
+sub-same-2 c = search needs
 
-part-same-bytes-start-2 : tie.Need-part-same-bytes-start-2
-part-same-bytes-start-2 c = search needs
+part-same-start-2 : tie.Need-part-same-start-2
+part-same-start-2 c = search needs
 
-part-same-bytes-end-2 : tie.Need-part-same-bytes-end-2
-part-same-bytes-end-2 c = search needs
+part-same-end-2 : tie.Need-part-same-end-2
+part-same-end-2 c = search needs
 
-same-bytes-requires : tie.Need-same-bytes-requires
-same-bytes-requires c κs = search needs
+same-requires : tie.Need-same-requires
+same-requires c κs = search needs
 
 returns-3 : tie.Need-returns-3
 returns-3 c = search (tests.id-same, not-false)
@@ -50,11 +50,11 @@ same-mac-id-spec =
     returns
     is-mac-id-requires
     returns-2
-    sub-same-bytes
-    part-same-bytes-start
-    part-same-bytes-end
-    sub-same-bytes-2
-    part-same-bytes-start-2
-    part-same-bytes-end-2
-    same-bytes-requires
+    sub-same
+    part-same-start
+    part-same-end
+    sub-same-2
+    part-same-start-2
+    part-same-end-2
+    same-requires
     returns-3)

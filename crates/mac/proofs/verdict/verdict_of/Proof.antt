@@ -4,8 +4,8 @@ use borrow.Author.Needs.{needs}
 use Rattle.mac.proofs.verdict.verdict_of.Statement.{statement}
 use Rattle.mac.proofs.verdict.verdict_of.Tie as tie
 
-same-bytes-requires : tie.Need-same-bytes-requires
-same-bytes-requires c κs = search needs
+same-requires : tie.Need-same-requires
+same-requires c κs = search needs
 
 returns : tie.Need-returns
 returns c = search steps.says-same
@@ -14,4 +14,4 @@ returns-2 : tie.Need-returns-2
 returns-2 c = search steps.says-differs
 
 pub verdict-of-spec : {M : Type 1} → statement M
-verdict-of-spec = tie.close (tie.spec same-bytes-requires returns returns-2)
+verdict-of-spec = tie.close (tie.spec same-requires returns returns-2)

@@ -3,7 +3,7 @@ use mathlib.Core.Path.{_≡_, sym, ap, _∙_}
 use Prim.Native.Nat.{_≤_}
 use lib.ListN.{length, take, length-take}
 use lib.Seq.{length-take-le}
-use Rattle.dataset.specs.Bytes.{between}
+use Rattle.slices.specs.Lists.{between}
 use Rattle.mac.specs.Result.{outputAfter}
 use Rattle.mac.specs.ListMode.{Call, answer, result}
 use Rattle.mac_frame.specs.Frame.{frameCall}

@@ -1,5 +1,5 @@
 use borrow.Author.Tests.{lt-ltb, le-ltb}
-use Rattle.answer.specs.If.{if_then_else_}
+use Rattle.slices.specs.If.{if_then_else_}
 use borrow.Author.Needs.{needs}
 use Rattle.mac_frame.proofs.text.digit.Statement.{statement}
 use Rattle.mac_frame.proofs.text.digit.Tie as tie

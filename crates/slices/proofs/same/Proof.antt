@@ -1,10 +1,10 @@
--- `same_bytes` meets its contract: each place by its law in CheckSteps. Assumes nothing.
-use Rattle.mac.proofs.CheckSteps as steps
+-- `same` meets its contract: each place by its law in Comparing. Assumes nothing.
+use Rattle.slices.proofs.Comparing as steps
 use borrow.Author.Needs.{needs}
 use Prim.Native.Nat.{_-_}
 use lib.ListN.{length}
-use Rattle.mac.proofs.bytes.same_bytes.Statement.{statement}
-use Rattle.mac.proofs.bytes.same_bytes.Tie as tie
+use Rattle.slices.proofs.same.Statement.{statement}
+use Rattle.slices.proofs.same.Tie as tie
 
 abbrev Inv-loop : tie.InvT-loop
 Inv-loop a b i₀ i = steps.SameLoop a b i
@@ -39,8 +39,8 @@ loop-again c = search steps.same-again
 returns-3 : tie.Need-returns-3 Inv-loop μ-loop
 returns-3 c = search steps.same-end
 
-pub same-bytes-spec : {M : Type 1} → statement M
-same-bytes-spec =
+pub same-spec : {M : Type 1} → statement M
+same-spec =
     tie.close
     (tie.spec
     Inv-loop
