@@ -12,7 +12,7 @@ use Rattle.answer.specs.Answer as answer
 use Rattle.slices.specs.If.{if_then_else_}
 use Rattle.dataset.specs.Tree.{Element, Elements, none, and, tagOf, spanOf}
 use Rattle.dataset.proofs.Lies.{ElementsLie}
-use Rattle.dataset.specs.Reading.{Reading, fault, read, _>>=_, One, ended, element, explicit, byOne, elementsAt, oneAt, sizeLimit, levels, dataSet, handedOn, oneCase}
+use Rattle.dataset.specs.Reading.{Reading, fault, read, _>>=_, One, ended, element, explicit, byOne, elementsAt, oneAt, sizeLimit, sizeAnswer, levels, dataSet, handedOn, oneCase}
 use Rattle.dataset.specs.Lookup.{elementOf, absent, present, foundOf, foundIn, found}
 use Rattle.dataset.specs.Inner.Outcomes.{orNext}
 use Rattle.dataset.specs.declared.lookup.Found.{Found}
@@ -21,7 +21,7 @@ use Rattle.dataset.specs.declared.reading.OneOutcome.the-variants as one
 use Rattle.dataset.proofs.Bounded.{explicit-bounded}
 use Rattle.dataset.proofs.Unfolding.{elements-are}
 use Rattle.dataset.proofs.Outcomes.{IsElement, is-element, is-one-fault, is-one-end}
-use Rattle.dataset.proofs.Steps.{answered, one-past, data-set-is, data-set-over}
+use Rattle.dataset.proofs.Steps.{answered, one-past, data-set-is, size-refused}
 use Rattle.dataset.proofs.Guarantees.{holds-read, OneIs, ElementIn, one-read, data-set-read}
 use Rattle.dataset.proofs.Order.{span-inside}
 
@@ -138,9 +138,9 @@ module _ (d : List ℕ) (tag at least : ℕ) (r : OneOutcome) (e : oneCase r ≡
           kept = kept-next f (present start end) refl (eqb here tag) (nothing (length d)) (i .kept);
         }
 
-pub find-over : (d : List ℕ) (tag : ℕ) (g : Answer) (x : Found) → sizeLimit < length d → g ≡ answer.refused 1 0 → x ≡ absent g (length d) → x ≡ found d tag
+pub find-over : (d : List ℕ) (tag : ℕ) (g : Answer) (x : Found) → g ≡ sizeAnswer d → (g .number ≡ 0 → ⊥) → x ≡ absent g (length d) → x ≡ found d tag
 unfolding found foundIn
-find-over d tag g x h e w = w ∙ rw (e, data-set-over d h)
+find-over d tag g x e h w = w ∙ rw (size-refused d g e h)
 
 -- ---- what is found lies in the data set
 Inside : List ℕ → Found → Type 0

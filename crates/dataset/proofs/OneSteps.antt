@@ -72,11 +72,10 @@ module _ (d : List ℕ) (delimited : Bool) (left stop at least : ℕ) (r : Eleme
   answers : (z : OneOutcome) → z ≡ oneOutcomeOf (oneAt explicit d delimited left stop at least) → oneCase z ≡ handedOn (oneAt explicit d delimited left stop at least)
   answers z = handed-on (oneAt explicit d delimited left stop at least) z
 
-  pub one-refused : (number position : ℕ) (f : Answer) → r ≡ header.Refused number position → f ≡ refused number position
+  pub one-refused : (f : Answer) → r ≡ header.Refused f
       → oneCase (one.Refused f) ≡ handedOn (oneAt explicit d delimited left stop at least)
   unfolding byHeader
-  one-refused number position f q g =
-      answers (one.Refused f) (ap one.Refused g ∙ sym (ap oneOutcomeOf (one-is (header.Refused number position) q)))
+  one-refused f q = answers (one.Refused f) (sym (ap oneOutcomeOf (one-is (header.Refused f) q)))
 
   pub one-end : (next : ℕ) → r ≡ header.End next → oneCase (one.End next) ≡ handedOn (oneAt explicit d delimited left stop at least)
   unfolding byHeader

@@ -5,14 +5,15 @@ use mathlib.Core.Path.{_≡_, refl, sym, ap, _∙_}
 use mathlib.Core.Bool.{Bool, true, false}
 use mathlib.Core.List.{List}
 use native.Mathlib.Omega.{arith}
+use lib.Dec.{ltb}
 use lib.ListN.{length}
-use borrow.Author.Tests.{lt-ltb, le-ltb}
+use borrow.Author.Tests.{ltb-true, ltb-false, lt-ltb, le-ltb, ne-eqb}
 use Rattle.answer.specs.declared.Answer.{Answer}
 use Rattle.answer.specs.Answer as answer
 use Rattle.slices.specs.If.{if_then_else_}
 use Rattle.dataset.specs.Header.{itemCase, itemAt}
 use Rattle.dataset.specs.Tree.{Element}
-use Rattle.dataset.specs.Reading.{Reading, fault, read, _>>=_, One, ended, element, explicit, byOne, byItem, byFragment, fragmentsAt, elementsAt, itemsAt, oneAt, sizeLimit, levels, deeper, dataSet, answerOf, handedOn, oneCase}
+use Rattle.dataset.specs.Reading.{Reading, fault, read, _>>=_, One, ended, element, explicit, byOne, byItem, byFragment, fragmentsAt, elementsAt, itemsAt, oneAt, sizeLimit, sizeAnswer, unlessRefused, levels, deeper, dataSet, answerOf, handedOn, oneCase}
 use Rattle.dataset.specs.Inner.Outcomes.{outcomeOf, oneOutcomeOf}
 use Rattle.dataset.specs.declared.header.ItemHeader.{ItemHeader}
 use Rattle.dataset.specs.declared.header.ItemHeader.the-variants as place
@@ -52,10 +53,10 @@ module _ (d : List ℕ) (stop at : ℕ) (r : ItemHeader) (e : itemCase r ≡ ite
     fragments-at : (p : ItemHeader) → r ≡ p → fragmentsAt explicit d left stop at ≡ byFragment (fragmentsAt explicit d left stop) (itemCase p)
     fragments-at p q = rw (fragments-are explicit explicit-bounded d left stop at h, sym e ∙ ap itemCase q)
 
-    pub fragments-refused : (number position : ℕ) (f : Answer) (R : Outcome) → r ≡ place.Refused number position → f ≡ answer.refused number position
+    pub fragments-refused : (f : Answer) (R : Outcome) → r ≡ place.Refused f
         → R ≡ outcomeOf (fragmentsAt explicit d left stop at) → outcome.Refused f ≡ R
     unfolding byFragment
-    fragments-refused number position f R q g i = ap outcome.Refused g ∙ sym (i ∙ ap outcomeOf (fragments-at (place.Refused number position) q))
+    fragments-refused f R q i = sym (i ∙ ap outcomeOf (fragments-at (place.Refused f) q))
 
     pub fragments-end : (next : ℕ) (R : Outcome) → r ≡ place.End next → R ≡ outcomeOf (fragmentsAt explicit d left stop at) → outcome.Next next ≡ R
     unfolding byFragment
@@ -115,10 +116,10 @@ module _ (d : List ℕ) (delimited : Bool) (stop at : ℕ) (r : ItemHeader) (e :
         ≡ byItem (λ inner end start. elementsAt explicit d inner (deeper left) end start 0) (itemsAt explicit d delimited left stop) at (itemCase p)
     items-at p q = rw (items-are explicit explicit-bounded d delimited left stop at h, sym e ∙ ap itemCase q)
 
-    pub items-refused : (number position : ℕ) (f : Answer) (R : Outcome) → r ≡ place.Refused number position → f ≡ answer.refused number position
+    pub items-refused : (f : Answer) (R : Outcome) → r ≡ place.Refused f
         → R ≡ outcomeOf (itemsAt explicit d delimited left stop at) → outcome.Refused f ≡ R
     unfolding byItem
-    items-refused number position f R q g i = ap outcome.Refused g ∙ sym (i ∙ ap outcomeOf (items-at (place.Refused number position) q))
+    items-refused f R q i = sym (i ∙ ap outcomeOf (items-at (place.Refused f) q))
 
     pub items-end : (next : ℕ) (R : Outcome) → r ≡ place.End next → R ≡ outcomeOf (itemsAt explicit d delimited left stop at) → outcome.Next next ≡ R
     unfolding byItem
@@ -162,16 +163,45 @@ pub elements-fall : (left l t : ℕ) → 0 < left → l ≡ deeper left → 3 * 
 elements-fall left l t h e q = let k = deeper-falls left h in omega (arith, k, e, q)
 
 -- ---- a whole data set
+pub size-within : (d : List ℕ) → length d ≤ sizeLimit → sizeAnswer d ≡ answer.accepted 0
+unfolding sizeAnswer if_then_else_
+size-within d h = rw (le-ltb sizeLimit (length d) h)
+
+pub size-over : (d : List ℕ) → sizeLimit < length d → sizeAnswer d ≡ answer.refused 1 0
+unfolding sizeAnswer if_then_else_
+size-over d h = rw (lt-ltb sizeLimit (length d) h)
+
 pub data-set-is : (d : List ℕ) → length d ≤ sizeLimit → dataSet d ≡ elementsAt explicit d false levels (length d) 0 0
-unfolding dataSet if_then_else_
-data-set-is d h = rw (le-ltb sizeLimit (length d) h)
+unfolding dataSet unlessRefused if_then_else_
+data-set-is d h = rw (size-within d h)
 
 pub data-set-over : (d : List ℕ) → sizeLimit < length d → dataSet d ≡ fault (answer.refused 1 0)
-unfolding dataSet if_then_else_
-data-set-over d h = rw (lt-ltb sizeLimit (length d) h)
+unfolding dataSet unlessRefused if_then_else_
+data-set-over d h = rw (size-over d h)
 
-pub read-over : (d : List ℕ) (f : Answer) → sizeLimit < length d → f ≡ answer.refused 1 0 → f ≡ answerOf (dataSet d)
-read-over d f h e = e ∙ sym (ap answerOf (data-set-over d h))
+-- ---- `size_answer`, and what follows of what it answers
+pub size-is-within : (d : List ℕ) (a : Answer) → length d ≤ sizeLimit → a ≡ answer.accepted 0 → a ≡ sizeAnswer d
+size-is-within d a h e = e ∙ sym (size-within d h)
+
+pub size-is-over : (d : List ℕ) (a : Answer) → sizeLimit < length d → a ≡ answer.refused 1 0 → a ≡ sizeAnswer d
+size-is-over d a h e = e ∙ sym (size-over d h)
+
+module _ (d : List ℕ) (a : Answer) (e : a ≡ sizeAnswer d) where
+  pub size-passed : a .number ≡ 0 → length d ≤ sizeLimit
+  size-passed z = go (ltb sizeLimit (length d)) refl
+    where
+      go : (b : Bool) → ltb sizeLimit (length d) ≡ b → length d ≤ sizeLimit
+      go false q = ltb-false sizeLimit (length d) q
+      go true q =
+          let k : a .number ≡ 1 = ap (λ (x : Answer). x .number) (e ∙ size-over d (ltb-true sizeLimit (length d) q)) in
+          absurd (omega arith)
+
+  pub size-refused : (a .number ≡ 0 → ⊥) → dataSet d ≡ fault a
+  unfolding dataSet unlessRefused if_then_else_
+  size-refused h = rw (← e, ne-eqb (a .number) 0 h)
+
+  pub read-over : (a .number ≡ 0 → ⊥) → a ≡ answerOf (dataSet d)
+  read-over h = sym (ap answerOf (size-refused h))
 
 module _ (d : List ℕ) (o : Outcome) (h : length d ≤ sizeLimit) (w : o ≡ outcomeOf (elementsAt explicit d false levels (length d) 0 0)) where
   pub read-refused : (f : Answer) → o ≡ outcome.Refused f → f ≡ answerOf (dataSet d)

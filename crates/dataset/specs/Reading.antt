@@ -6,7 +6,7 @@ use mathlib.Core.Option.{Option, some}
 use mathlib.Core.Option as Opt
 use mathlib.Core.Path.{_≡_}
 use lib.ListN.{length}
-use lib.Dec.{ltb}
+use lib.Dec.{eqb, ltb}
 use Rattle.answer.specs.declared.Answer.{Answer}
 use Rattle.answer.specs.Answer as answer
 use Rattle.slices.specs.If.{if_then_else_}
@@ -45,7 +45,7 @@ explicit = record { element = elementAt; item = itemAt }
 -- 8 bytes, is no part of the value.
 unfoldable pub byHeader : (items : (delimited : Bool) (stop start : ℕ) → Reading Items) (parts : (start : ℕ) → Reading (List Span)) (at : ℕ)
     → ElementHeader → Reading One
-byHeader items parts at (ElementHeader.refused number position) = fault (answer.refused number position)
+byHeader items parts at (ElementHeader.refused a) = fault a
 byHeader items parts at (ElementHeader.ends next) = read ended next
 byHeader items parts at (ElementHeader.value tag vr start stop) = read (element (value at tag vr (span start stop))) stop
 byHeader items parts at (ElementHeader.sequence tag start stop delimited) = do
@@ -65,7 +65,7 @@ byOne elements (element e, next) = do
 -- Items are one item and the rest. Handed in are the readers of an item's elements and of the rest.
 unfoldable pub byItem : (elements : (delimited : Bool) (stop start : ℕ) → Reading Elements) (items : (next : ℕ) → Reading Items) (at : ℕ)
     → ItemHeader → Reading Items
-byItem elements items at (ItemHeader.refused number position) = fault (answer.refused number position)
+byItem elements items at (ItemHeader.refused a) = fault a
 byItem elements items at (ItemHeader.ends next) = read last next
 byItem elements items at (ItemHeader.item start stop delimited) = do
   (inside, next) ← elements delimited stop start
@@ -74,7 +74,7 @@ byItem elements items at (ItemHeader.item start stop delimited) = do
 
 -- Fragments are one fragment and the rest: "Nothing inside a fragment .. is examined." (2.19). Handed in is the reader of the rest.
 unfoldable pub byFragment : (parts : (next : ℕ) → Reading (List Span)) → ItemHeader → Reading (List Span)
-byFragment parts (ItemHeader.refused number position) = fault (answer.refused number position)
+byFragment parts (ItemHeader.refused a) = fault a
 byFragment parts (ItemHeader.ends next) = read [] next
 byFragment parts (ItemHeader.item start stop delimited) = do
   (rest, after) ← parts stop
@@ -138,9 +138,17 @@ module _ (h : Headers) where
 abbrev pub sizeLimit : ℕ
 sizeLimit = 1048576
 
--- the reading of a whole data set, which "may have none". "A data set that is larger than 2.1 allows gives 1, before 2 to 8." (2.21)
+-- 1: "A data set that is larger than 2.1 allows gives 1, before 2 to 8." (2.21)
+unfoldable pub sizeAnswer : List ℕ → Answer
+sizeAnswer d = if ltb sizeLimit (length d) then answer.refused 1 0 else answer.accepted 0
+
+-- a reading behind an answer: its refusal comes before
+unfoldable pub unlessRefused : {A : Type 0} → Answer → Reading A → Reading A
+unlessRefused a p = if eqb (a .number) 0 then p else fault a
+
+-- the reading of a whole data set, which "may have none" (2.1)
 unfoldable pub dataSet : List ℕ → Reading Elements
-dataSet d = if ltb sizeLimit (length d) then fault (answer.refused 1 0) else elementsAt explicit d false levels (length d) 0 0
+dataSet d = unlessRefused (sizeAnswer d) (elementsAt explicit d false levels (length d) 0 0)
 
 -- the answer to the caller: the fault, or number 0, with length 0 (docs/DECISIONS.md, A3)
 abbrev pub answerOf : {A : Type 0} → Reading A → Answer

@@ -2,19 +2,17 @@
 use crate::bytes;
 use crate::vr;
 use crate::vr::Form;
+use answer::Answer;
 ghost use mathlib.Core.Path.{_≡_};
 ghost use Prim.Native.Nat.{_+_, _≤_};
 ghost use lib.ListN.{length};
 ghost use Rattle.dataset.specs.Header as spec;
-ghost use Rattle.dataset.specs.Header.{elementCase, itemCase, outside, badLength, tooDeep, undefinedBy, definedBy, valueBy, longAt, vrOnAt, endsAt, closedBy, elementAt, itemBy, itemAt};
+ghost use Rattle.dataset.specs.Header.{faultAt, elementCase, itemCase, outside, badLength, tooDeep, undefinedBy, definedBy, valueBy, longAt, vrOnAt, endsAt, closedBy, elementAt, itemBy, itemAt};
 
 // What stands in an element's place.
 pub enum ElementHeader {
-    // refused, with this number, at this header
-    Refused {
-        number: u8,
-        position: usize,
-    },
+    // refused, with this fault
+    Refused(Answer),
     // the data set ends here; what follows it is at this offset
     End(usize),
     // a value that is not looked into, from start to end
@@ -40,11 +38,8 @@ pub enum ElementHeader {
 
 // What stands in an item's or a fragment's place.
 pub enum ItemHeader {
-    // refused, with this number, at this header
-    Refused {
-        number: u8,
-        position: usize,
-    },
+    // refused, with this fault
+    Refused(Answer),
     // the items or fragments end here; what follows them is at this offset
     End(usize),
     // from start up to end, or to an item delimiter before end
@@ -63,24 +58,25 @@ const ITEM_DELIMITER: u32 = 0xFFFEE00D;
 
 const SEQUENCE_DELIMITER: u32 = 0xFFFEE0DD;
 
-// The refusal of the header at `at`, in an element's place.
-fn refused_element(at: usize, number: u8) -> ElementHeader
-    ensures { λ r. ⌜ elementCase r ≡ spec.ElementHeader.refused number at ⌝ }
+// The fault of the header at `at`. Every fault of the reading but 1 is made here.
+fn fault(number: u8, at: usize) -> Answer
+    ensures { λ r. ⌜ r ≡ faultAt number at ⌝ }
 {
-    ElementHeader::Refused {
-        number,
-        position: at,
-    }
+    Answer::refused(number, at)
 }
 
-// The refusal of the header at `at`, in the place of an item or a fragment.
-fn refused_item(at: usize, number: u8) -> ItemHeader
-    ensures { λ r. ⌜ itemCase r ≡ spec.ItemHeader.refused number at ⌝ }
+// A refusal in an element's place.
+fn refused_element(at: usize, number: u8) -> ElementHeader
+    ensures { λ r. ⌜ elementCase r ≡ spec.ElementHeader.refused (faultAt number at) ⌝ }
 {
-    ItemHeader::Refused {
-        number,
-        position: at,
-    }
+    ElementHeader::Refused(fault(number, at))
+}
+
+// A refusal in the place of an item or a fragment.
+fn refused_item(at: usize, number: u8) -> ItemHeader
+    ensures { λ r. ⌜ itemCase r ≡ spec.ItemHeader.refused (faultAt number at) ⌝ }
+{
+    ItemHeader::Refused(fault(number, at))
 }
 
 // A value, or a sequence of defined length.

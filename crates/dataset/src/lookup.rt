@@ -61,8 +61,9 @@ pub fn find(d: &[u8], tag: u32) -> Found
     ensures { λ r. ⌜ r ≡ found (now (d .entry)) tag ⌝ }
 {
     let size = d.len();
-    if reading::SIZE_LIMIT < size {
-        return absent_at_end(Answer::refused(1, 0), size);
+    let large = reading::size_answer(d);
+    if large.number != 0 {
+        return absent_at_end(large, size);
     }
     let mut at = 0;
     let mut least: u64 = 0;

@@ -8,7 +8,7 @@ use answer::Answer;
 ghost use mathlib.Core.Path.{_≡_};
 ghost use Prim.Native.Nat.{_<_, _≤_};
 ghost use lib.ListN.{length};
-ghost use Rattle.dataset.specs.Reading.{explicit, elementsAt, itemsAt, fragmentsAt, oneAt, handedOn, oneCase, answerOf, dataSet};
+ghost use Rattle.dataset.specs.Reading.{explicit, elementsAt, itemsAt, fragmentsAt, oneAt, handedOn, oneCase, answerOf, sizeAnswer, dataSet};
 ghost use Rattle.dataset.specs.Reading as spec;
 ghost use Rattle.dataset.specs.Inner.Outcomes.{outcomeOf, PastDelimiter, holdingOf};
 
@@ -61,10 +61,7 @@ fn read_fragments(d: &[u8], left: u32, stop: usize, from: usize) -> Outcome
     let mut at = from;
     loop {
         match header::item_header(d, false, true, stop, at) {
-            ItemHeader::Refused { number, position } => return Outcome::Refused(Answer::refused(
-                number,
-                position,
-            )),
+            ItemHeader::Refused(fault) => return Outcome::Refused(fault),
             ItemHeader::End(next) => return Outcome::Next(next),
             ItemHeader::Item {
                 start: _,
@@ -116,10 +113,7 @@ pub fn read_one(
     ensures { λ r. ⌜ oneCase r ≡ handedOn (oneAt explicit (now (d .entry)) delimited left stop at least) ⌝ }
 {
     match header::header(d, delimited, left, stop, at, least) {
-        ElementHeader::Refused { number, position } => OneOutcome::Refused(Answer::refused(
-            number,
-            position,
-        )),
+        ElementHeader::Refused(fault) => OneOutcome::Refused(fault),
         ElementHeader::End(next) => OneOutcome::End(next),
         ElementHeader::Value {
             tag,
@@ -182,10 +176,7 @@ fn read_items(d: &[u8], delimited: bool, left: u32, stop: usize, from: usize) ->
     let mut at = from;
     loop {
         match header::item_header(d, true, delimited, stop, at) {
-            ItemHeader::Refused { number, position } => return Outcome::Refused(Answer::refused(
-                number,
-                position,
-            )),
+            ItemHeader::Refused(fault) => return Outcome::Refused(fault),
             ItemHeader::End(next) => return Outcome::Next(next),
             ItemHeader::Item {
                 start,
@@ -201,12 +192,23 @@ fn read_items(d: &[u8], delimited: bool, left: u32, stop: usize, from: usize) ->
     }
 }
 
+// 1: whether a data set is larger than it may be.
+pub fn size_answer(d: &[u8]) -> Answer
+    ensures { λ r. ⌜ r ≡ sizeAnswer (now (d .entry)) ⌝ }
+{
+    if SIZE_LIMIT < d.len() {
+        return Answer::refused(1, 0);
+    }
+    Answer::accepted(0)
+}
+
 // Reads a data set: its first fault from the left, or number 0.
 pub fn read(d: &[u8]) -> Answer
     ensures { λ r. ⌜ r ≡ answerOf (dataSet (now (d .entry))) ⌝ }
 {
-    if SIZE_LIMIT < d.len() {
-        return Answer::refused(1, 0);
+    let size = size_answer(d);
+    if size.number != 0 {
+        return size;
     }
     match read_elements(d, false, LEVELS, d.len(), 0) {
         Outcome::Refused(fault) => fault,

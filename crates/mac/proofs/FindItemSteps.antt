@@ -64,9 +64,9 @@ module _ (d : List ℕ) (x : Extent) (at : ℕ) (r : ItemHeader) (e : itemCase r
       ≡ byItem (λ inner end start. elementsAt explicit d inner (deeper (x .left)) end start 0) (itemsFrom d x) at (itemCase h)
   items-at h q = rw (items-are explicit explicit-bounded d (x .delimited) (x .left) (x .stop) at (i .inside), sym e ∙ ap itemCase q)
 
-  pub find-item-refused : (number position : ℕ) → r ≡ item.Refused number position → FoundItemIn d w 0 (itemsIn d x) found.Absent
+  pub find-item-refused : (f : Answer) → r ≡ item.Refused f → FoundItemIn d w 0 (itemsIn d x) found.Absent
   unfolding byItem
-  find-item-refused number position q = i .on found.Absent (rw (items-at (item.Refused number position) q) tt)
+  find-item-refused f q = i .on found.Absent (rw (items-at (item.Refused f) q) tt)
 
   pub find-item-end : (next : ℕ) → r ≡ item.End next → FoundItemIn d w 0 (itemsIn d x) found.Absent
   unfolding byItem firstItem

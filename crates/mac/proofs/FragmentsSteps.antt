@@ -53,12 +53,12 @@ module _ (d : List ℕ) (left stop from : ℕ) (xs₀ : List ℕ) (to₀ : ℕ) 
   fragments-at : (p : ItemHeader) → r ≡ p → fragmentsAt explicit d left stop at ≡ byFragment (fragmentsAt explicit d left stop) (itemCase p)
   fragments-at p q = rw (fragments-are explicit explicit-bounded d left stop at (i .inside), sym e ∙ ap itemCase q)
 
-  pub fragments-refused : (number position : ℕ) (f : Answer) (ys : List ℕ) → r ≡ place.Refused number position → f ≡ refused number position
+  pub fragments-refused : (f : Answer) (ys : List ℕ) → r ≡ place.Refused f
       → Walk (walked holdsNone fragmentsStream) fragmentsStream (fragmentsAt explicit d left stop from) d to₀ (written.Refused f) xs₀ ys
   unfolding byFragment
-  fragments-refused number position f ys q g =
+  fragments-refused f ys q =
       stop-at holdsNone fragmentsStream d (fragmentsAt explicit d left stop from) to₀ xs₀ (fragmentsAt explicit d left stop at) false to xs (i .going) f ys
-      (fragments-at (place.Refused number position) q ∙ ap fault (sym g))
+      (fragments-at (place.Refused f) q)
 
   pub fragments-end : (next : ℕ) (ys : List ℕ) → r ≡ place.End next → ys ≡ sets xs to sequenceDelimiterBytes
       → Walk (walked holdsNone fragmentsStream) fragmentsStream (fragmentsAt explicit d left stop from) d to₀ (written.Past false next (to + 4)) xs₀ ys

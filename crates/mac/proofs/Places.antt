@@ -37,7 +37,7 @@ module _ (d : List ℕ) (x : Extent) (at least : ℕ) (inside : x .stop ≤ leng
       → byHeader (λ inner. itemsAt explicit d inner (x .left)) (fragmentsAt explicit d (x .left) (x .stop)) at h ≡ read (element e) next
       → ElementPlaced d e (placeBy (x .left) h)
   unfolding byHeader
-  by-header (ElementHeader.refused number position) f q = absurd (true≢false (cc))
+  by-header (ElementHeader.refused a) f q = absurd (true≢false (cc))
   by-header (ElementHeader.ends n) f q = absurd (true≢false (cc))
   by-header (ElementHeader.value tag vr start end) f q =
       let k : Element.value at tag vr (span start end) ≡ e = cc in

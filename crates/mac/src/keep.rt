@@ -28,10 +28,7 @@ pub(crate) fn keeps_header(keep: Keep, h: ElementHeader) -> bool
     ensures { λ r. ⌜ r ≡ keepsHeader keep (elementCase h) ⌝ }
 {
     match h {
-        ElementHeader::Refused {
-            number: _,
-            position: _,
-        } => false,
+        ElementHeader::Refused(_) => false,
         ElementHeader::End(_) => false,
         ElementHeader::Value {
             tag,

@@ -51,10 +51,7 @@ fn place_by(left: u32, h: ElementHeader) -> Place
     ensures { λ r. ⌜ r ≡ placeBy left (elementCase h) ⌝ }
 {
     match h {
-        ElementHeader::Refused {
-            number: _,
-            position: _,
-        } => Place::Absent,
+        ElementHeader::Refused(_) => Place::Absent,
         ElementHeader::End(_) => Place::Absent,
         ElementHeader::Value {
             tag: _,

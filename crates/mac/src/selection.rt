@@ -107,10 +107,7 @@ fn find_item(d: &[u8], x: Extent, key: ItemKey) -> FoundItem
     let mut index: u64 = 0;
     loop {
         match header::item_header(d, true, x.delimited, x.stop, at) {
-            ItemHeader::Refused {
-                number: _,
-                position: _,
-            } => return FoundItem::Absent,
+            ItemHeader::Refused(_) => return FoundItem::Absent,
             ItemHeader::End(_) => return FoundItem::Absent,
             ItemHeader::Item {
                 start,

@@ -128,16 +128,14 @@ fn write_fragments(
     let mut to = onto;
     loop {
         match header::item_header(d, false, true, stop, at) {
-            ItemHeader::Refused { number, position } => return Written::Refused(Answer::refused(
-                number,
-                position,
-            )),
+            ItemHeader::Refused(fault) => return Written::Refused(fault),
             ItemHeader::End(next) => {
                 output::put_sequence_delimiter(out, to);
+                let close = to + 4;
                 return Written::Past {
                     holds_un: false,
                     next,
-                    to: to + 4,
+                    to: close,
                 };
             }
             ItemHeader::Item {
@@ -167,10 +165,7 @@ fn write_element(
     ensures { λ r. ⌜ ElementWalk (now (d .entry)) left stop at (elementCase h) to r (now (out .entry)) (now (out .exit)) ⌝ }
 {
     match h {
-        ElementHeader::Refused { number, position } => OneWritten::Refused(Answer::refused(
-            number,
-            position,
-        )),
+        ElementHeader::Refused(fault) => OneWritten::Refused(fault),
         ElementHeader::End(next) => OneWritten::End(next),
         ElementHeader::Value {
             tag,
@@ -292,16 +287,14 @@ fn write_items(
     let mut to = onto;
     loop {
         match header::item_header(d, true, delimited, stop, at) {
-            ItemHeader::Refused { number, position } => return Written::Refused(Answer::refused(
-                number,
-                position,
-            )),
+            ItemHeader::Refused(fault) => return Written::Refused(fault),
             ItemHeader::End(next) => {
                 output::put_sequence_delimiter(out, to);
+                let close = to + 4;
                 return Written::Past {
                     holds_un: found,
                     next,
-                    to: to + 4,
+                    to: close,
                 };
             }
             ItemHeader::Item {

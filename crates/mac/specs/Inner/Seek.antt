@@ -28,7 +28,7 @@ isThere place.Fragments = true
 
 -- the element with this header, of a data set with `left` levels
 abbrev pub placeBy : (left : ℕ) → ElementHeader → Place
-placeBy left (ElementHeader.refused number position) = place.Absent
+placeBy left (ElementHeader.refused a) = place.Absent
 placeBy left (ElementHeader.ends next) = place.Absent
 placeBy left (ElementHeader.value tag vr start end) = place.Value vr start end
 placeBy left (ElementHeader.sequence tag start end delimited) = place.Items (record { delimited = delimited; left = left; stop = end; from = start })

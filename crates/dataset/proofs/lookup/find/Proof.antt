@@ -1,5 +1,6 @@
 -- `find` meets its contract: the invariant is `FindLoop`, and each place is a law of proofs/LookupSteps.antt. Assumes nothing.
 use Rattle.dataset.proofs.LookupSteps as steps
+use Rattle.dataset.proofs.Steps.{size-passed}
 use borrow.Author.Needs.{needs}
 use Prim.Native.Nat.{_-_}
 use lib.ListN.{length}
@@ -12,8 +13,8 @@ Inv-loop d tag size at₀ least₀ before₀ at least before = steps.FindLoop d 
 abbrev μ-loop : tie.MeasureT-loop
 μ-loop d tag size at₀ least₀ before₀ at least before = length d - at
 
-refused-requires : tie.Need-refused-requires Inv-loop μ-loop
-refused-requires c κs = search needs
+size-answer-requires : tie.Need-size-answer-requires Inv-loop μ-loop
+size-answer-requires c κs = search needs
 
 absent-at-end-requires : tie.Need-absent-at-end-requires Inv-loop μ-loop
 absent-at-end-requires c κs = search needs
@@ -40,13 +41,13 @@ absent-at-end-requires-3 : tie.Need-absent-at-end-requires-3 Inv-loop μ-loop
 absent-at-end-requires-3 c κs = search needs
 
 returns-2 : tie.Need-returns-2 Inv-loop μ-loop
-returns-2 c = search steps.find-refused
+returns-2 c = search (steps.find-refused, size-passed)
 
 enum-told : tie.Need-enum-told Inv-loop μ-loop
 enum-told c = search needs
 
 returns-3 : tie.Need-returns-3 Inv-loop μ-loop
-returns-3 c = search steps.find-end
+returns-3 c = search (steps.find-end, size-passed)
 
 enum-known-here : tie.Need-enum-known-here Inv-loop μ-loop
 enum-known-here c = search needs
@@ -72,7 +73,7 @@ find-spec =
     (tie.spec
     Inv-loop
     μ-loop
-    refused-requires
+    size-answer-requires
     absent-at-end-requires
     returns
     accepted-requires

@@ -4,8 +4,8 @@ use borrow.Author.Needs.{needs}
 use Rattle.dataset.proofs.reading.read.Statement.{statement}
 use Rattle.dataset.proofs.reading.read.Tie as tie
 
-refused-requires : tie.Need-refused-requires
-refused-requires c κs = search needs
+size-answer-requires : tie.Need-size-answer-requires
+size-answer-requires c κs = search needs
 
 returns : tie.Need-returns
 returns c = search steps.read-over
@@ -23,16 +23,16 @@ accepted-requires : tie.Need-accepted-requires
 accepted-requires c κs = search needs
 
 returns-2 : tie.Need-returns-2
-returns-2 c = search steps.read-refused
+returns-2 c = search (steps.read-refused, steps.size-passed)
 
 returns-3 : tie.Need-returns-3
-returns-3 c = search steps.read-accepted
+returns-3 c = search (steps.read-accepted, steps.size-passed)
 
 pub read-spec : {M : Type 1} → statement M
 read-spec =
     tie.close
     (tie.spec
-    refused-requires
+    size-answer-requires
     returns
     read-elements-requires
     enum-known-fault

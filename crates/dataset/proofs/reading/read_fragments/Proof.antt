@@ -18,11 +18,8 @@ loop-holds c = record { inside = search needs; same = refl }
 item-header-requires : tie.Need-item-header-requires Inv-loop μ-loop
 item-header-requires c κs = search needs
 
-enum-known-number : tie.Need-enum-known-number Inv-loop μ-loop
-enum-known-number c = search needs
-
-refused-requires : tie.Need-refused-requires Inv-loop μ-loop
-refused-requires c κs = search needs
+enum-known-fault : tie.Need-enum-known-fault Inv-loop μ-loop
+enum-known-fault c = search needs
 
 returns : tie.Need-returns Inv-loop μ-loop
 returns c = search steps.fragments-refused
@@ -50,8 +47,7 @@ read-fragments-spec =
     μ-loop
     loop-holds
     item-header-requires
-    enum-known-number
-    refused-requires
+    enum-known-fault
     returns
     enum-known-next
     returns-2

@@ -20,7 +20,6 @@ use Rattle.mac.proofs.writer.+write_element+write_elements+write_items+
 use Rattle.mac.proofs.writer.write_one.Reads as write-one
 use Rattle.mac.proofs.writer.write_one.Kinds as write-one-kinds
 use Rattle.mac.proofs.writer.+write_element+write_elements+write_items+write_one.Lts-write_one as write-one-lts
-use Rattle.answer.proofs.Answer.refused.Reads as refused-reads
 use Rattle.dataset.proofs.reading.deeper.Reads as deeper-reads
 use Rattle.dataset.proofs.header.header.Reads as header-reads
 use Rattle.dataset.proofs.header.item_header.Reads as item-header-reads
@@ -93,7 +92,7 @@ write-one-below t =
 -- what each function of the cycle asks of the functions that it calls, and learns from them
 abbrev write-element-claims : ℕ → write-element-lts.Claims
 write-element-claims t =
-    (refused-reads.Asked, refused-reads.Learnt, copy-reads.Asked, copy-reads.Learnt, value-written-reads.Asked, value-written-reads.Learnt, write-items-below t, write-items.Post, nested-written-reads.Asked, nested-written-reads.Learnt, write-fragments-reads.Asked, write-fragments-reads.Learnt)
+    (copy-reads.Asked, copy-reads.Learnt, value-written-reads.Asked, value-written-reads.Learnt, write-items-below t, write-items.Post, nested-written-reads.Asked, nested-written-reads.Learnt, write-fragments-reads.Asked, write-fragments-reads.Learnt)
 
 abbrev write-elements-claims : ℕ → write-elements-lts.Claims
 write-elements-claims t =
@@ -101,7 +100,7 @@ write-elements-claims t =
 
 abbrev write-items-claims : ℕ → write-items-lts.Claims
 write-items-claims t =
-    (item-header-reads.Asked, item-header-reads.Learnt, refused-reads.Asked, refused-reads.Learnt, put-sequence-delimiter-reads.Asked, put-sequence-delimiter-reads.Learnt, put-item-tag-reads.Asked, put-item-tag-reads.Learnt, deeper-reads.Asked, deeper-reads.Learnt, write-elements-below t, write-elements.Post)
+    (item-header-reads.Asked, item-header-reads.Learnt, put-sequence-delimiter-reads.Asked, put-sequence-delimiter-reads.Learnt, put-item-tag-reads.Asked, put-item-tag-reads.Learnt, deeper-reads.Asked, deeper-reads.Learnt, write-elements-below t, write-elements.Post)
 
 abbrev write-one-claims : ℕ → write-one-lts.Claims
 write-one-claims t =
@@ -109,9 +108,6 @@ write-one-claims t =
 
 write-element-enum-known-h : (t : ℕ) → write-element-lts.Need-enum-known-h (write-element-claims t) (write-element-at t) write-element.Post
 write-element-enum-known-h t c = search needs
-
-write-element-refused-requires : (t : ℕ) → write-element-lts.Need-refused-requires (write-element-claims t) (write-element-at t) write-element.Post
-write-element-refused-requires t c κs = search needs
 
 write-element-enum-known-h-2 : (t : ℕ) → write-element-lts.Need-enum-known-h-2 (write-element-claims t) (write-element-at t) write-element.Post
 write-element-enum-known-h-2 t c = search needs
@@ -248,14 +244,11 @@ write-items-loop-holds t c = search items.items-start
 write-items-item-header-requires : (t : ℕ) → write-items-lts.Need-item-header-requires (write-items-claims t) (write-items-at t) write-items.Post write-items-Inv-loop write-items-μ-loop
 write-items-item-header-requires t c κs = search needs
 
-write-items-enum-known-number : (t : ℕ) → write-items-lts.Need-enum-known-number (write-items-claims t) (write-items-at t) write-items.Post write-items-Inv-loop write-items-μ-loop
-write-items-enum-known-number t c = search needs
+write-items-enum-known-fault : (t : ℕ) → write-items-lts.Need-enum-known-fault (write-items-claims t) (write-items-at t) write-items.Post write-items-Inv-loop write-items-μ-loop
+write-items-enum-known-fault t c = search needs
 
 write-items-same-length : (t : ℕ) → write-items-lts.Need-same-length (write-items-claims t) (write-items-at t) write-items.Post write-items-Inv-loop write-items-μ-loop
 write-items-same-length t c = search needs
-
-write-items-refused-requires : (t : ℕ) → write-items-lts.Need-refused-requires (write-items-claims t) (write-items-at t) write-items.Post write-items-Inv-loop write-items-μ-loop
-write-items-refused-requires t c κs = search needs
 
 write-items-returns : (t : ℕ) → write-items-lts.Need-returns (write-items-claims t) (write-items-at t) write-items.Post write-items-Inv-loop write-items-μ-loop
 write-items-returns t c = search items.items-refused
@@ -266,8 +259,8 @@ write-items-enum-known-next t c = search needs
 write-items-put-sequence-delimiter-requires : (t : ℕ) → write-items-lts.Need-put-sequence-delimiter-requires (write-items-claims t) (write-items-at t) write-items.Post write-items-Inv-loop write-items-μ-loop
 write-items-put-sequence-delimiter-requires t c κs = search needs
 
-write-items-add-t26 : (t : ℕ) → write-items-lts.Need-add-t26 (write-items-claims t) (write-items-at t) write-items.Post write-items-Inv-loop write-items-μ-loop
-write-items-add-t26 t c = search needs
+write-items-add-close : (t : ℕ) → write-items-lts.Need-add-close (write-items-claims t) (write-items-at t) write-items.Post write-items-Inv-loop write-items-μ-loop
+write-items-add-close t c = search needs
 
 write-items-same-length-2 : (t : ℕ) → write-items-lts.Need-same-length-2 (write-items-claims t) (write-items-at t) write-items.Post write-items-Inv-loop write-items-μ-loop
 write-items-same-length-2 t c = search needs
@@ -290,8 +283,8 @@ write-items-add-write-elements t c = search needs
 write-items-write-elements-requires : (t : ℕ) → write-items-lts.Need-write-elements-requires (write-items-claims t) (write-items-at t) write-items.Post write-items-Inv-loop write-items-μ-loop
 write-items-write-elements-requires t c κs = search (items.elements-fall, items.item-room, items.item-order, items.item-inside, needs)
 
-write-items-enum-known-fault : (t : ℕ) → write-items-lts.Need-enum-known-fault (write-items-claims t) (write-items-at t) write-items.Post write-items-Inv-loop write-items-μ-loop
-write-items-enum-known-fault t c = search needs
+write-items-enum-known-fault-2 : (t : ℕ) → write-items-lts.Need-enum-known-fault-2 (write-items-claims t) (write-items-at t) write-items.Post write-items-Inv-loop write-items-μ-loop
+write-items-enum-known-fault-2 t c = search needs
 
 write-items-same-length-3 : (t : ℕ) → write-items-lts.Need-same-length-3 (write-items-claims t) (write-items-at t) write-items.Post write-items-Inv-loop write-items-μ-loop
 write-items-same-length-3 t c = search needs
@@ -351,7 +344,6 @@ pub +write-element+write-elements+write-items+write-one-spec : {M : Type 1} → 
     (write-element-at t)
     write-element.Post
     (write-element-enum-known-h t)
-    (write-element-refused-requires t)
     (write-element-enum-known-h-2 t)
     (write-element-enum-known-h-3 t)
     (write-element-copy-requires t)
@@ -403,13 +395,12 @@ pub +write-element+write-elements+write-items+write-one-spec : {M : Type 1} → 
     write-items-μ-loop
     (write-items-loop-holds t)
     (write-items-item-header-requires t)
-    (write-items-enum-known-number t)
-    (write-items-refused-requires t)
+    (write-items-enum-known-fault t)
     (write-items-same-length t)
     (write-items-returns t)
     (write-items-enum-known-next t)
     (write-items-put-sequence-delimiter-requires t)
-    (write-items-add-t26 t)
+    (write-items-add-close t)
     (write-items-same-length-2 t)
     (write-items-returns-2 t)
     (write-items-enum-known-start t)
@@ -417,7 +408,7 @@ pub +write-element+write-elements+write-items+write-one-spec : {M : Type 1} → 
     (write-items-deeper-requires t)
     (write-items-add-write-elements t)
     (write-items-write-elements-requires t)
-    (write-items-enum-known-fault t)
+    (write-items-enum-known-fault-2 t)
     (write-items-same-length-3 t)
     (write-items-returns-3 t)
     (write-items-enum-known-holds-un t)

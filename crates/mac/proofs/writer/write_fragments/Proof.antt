@@ -17,14 +17,11 @@ loop-holds c = search steps.fragments-start
 item-header-requires : tie.Need-item-header-requires Inv-loop μ-loop
 item-header-requires c κs = search needs
 
-enum-known-number : tie.Need-enum-known-number Inv-loop μ-loop
-enum-known-number c = search needs
+enum-known-fault : tie.Need-enum-known-fault Inv-loop μ-loop
+enum-known-fault c = search needs
 
 same-length : tie.Need-same-length Inv-loop μ-loop
 same-length c = search needs
-
-refused-requires : tie.Need-refused-requires Inv-loop μ-loop
-refused-requires c κs = search needs
 
 returns : tie.Need-returns Inv-loop μ-loop
 returns c = search steps.fragments-refused
@@ -35,8 +32,8 @@ enum-known-next c = search needs
 put-sequence-delimiter-requires : tie.Need-put-sequence-delimiter-requires Inv-loop μ-loop
 put-sequence-delimiter-requires c κs = search needs
 
-add-t19 : tie.Need-add-t19 Inv-loop μ-loop
-add-t19 c = search needs
+add-close : tie.Need-add-close Inv-loop μ-loop
+add-close c = search needs
 
 same-length-2 : tie.Need-same-length-2 Inv-loop μ-loop
 same-length-2 c = search needs
@@ -73,13 +70,12 @@ write-fragments-spec =
     μ-loop
     loop-holds
     item-header-requires
-    enum-known-number
-    refused-requires
+    enum-known-fault
     same-length
     returns
     enum-known-next
     put-sequence-delimiter-requires
-    add-t19
+    add-close
     same-length-2
     returns-2
     enum-known-start
