@@ -14,7 +14,8 @@ use Rattle.dataset.specs.Bytes.{num16, num32, tagAt, vrAt}
 use Rattle.dataset.specs.Vr.{formOf, oneOf, OB, SQ}
 use Rattle.answer.specs.declared.Answer.{Answer}
 use Rattle.answer.proofs.Refusals.{position-kept}
-use Rattle.dataset.specs.Header.{faultAt, ElementHeader, ItemHeader, undefined, itemTag, itemDelimiter, sequenceDelimiter, outside, badLength, tooDeep, undefinedBy, definedBy, valueBy, longAt, byForm, vrOnAt, itemBy, endsAt, closedBy, elementAt, itemAt}
+use Rattle.dataset.specs.Header.{faultAt, ElementHeader, ItemHeader, undefined, outside, badLength, tooDeep, undefinedBy, definedBy, valueBy, longAt, byForm, vrOnAt, itemBy, endsAt, closedBy, elementAt, itemAt}
+use Rattle.dataset.specs.Tags.{itemTag, itemDelimitationItem, sequenceDelimitationItem}
 use Rattle.dataset.specs.Order.{Tagged, Sized, ValueAt, NestAt, HeaderExtent, EndsIn}
 use Rattle.dataset.specs.declared.vr.Form.{Form}
 use Rattle.dataset.specs.declared.vr.Form.the-variants.{Short, Long, Neither}
@@ -49,7 +50,7 @@ pub record ItemSpan (d : List ℕ) (stop at start end : ℕ) (delimited : Bool) 
 
 abbrev pub ElementFacts : List ℕ → (delimited : Bool) (left stop at least : ℕ) → ElementHeader → Type 0
 ElementFacts d delimited left stop at least (ElementHeader.refused a) = RefusedAt at a
-ElementFacts d delimited left stop at least (ElementHeader.ends next) = EndAt d itemDelimiter delimited stop at next
+ElementFacts d delimited left stop at least (ElementHeader.ends next) = EndAt d itemDelimitationItem delimited stop at next
 ElementFacts d delimited left stop at least (ElementHeader.value tag vr start end) = (least ≤ tag) × ValueAt d stop at tag vr start end
 ElementFacts d delimited left stop at least (ElementHeader.sequence tag start end inner) =
     (least ≤ tag) × NestAt d stop at tag SQ start × (start ≤ end) × (end ≤ stop) × (0 < left) × (stop ≤ length d)
@@ -59,7 +60,7 @@ ElementFacts d delimited left stop at least (ElementHeader.fragments tag start) 
 
 abbrev pub ItemFacts : List ℕ → (inSequence delimited : Bool) (stop at : ℕ) → ItemHeader → Type 0
 ItemFacts d inSequence delimited stop at (ItemHeader.refused a) = RefusedAt at a
-ItemFacts d inSequence delimited stop at (ItemHeader.ends next) = EndAt d sequenceDelimiter delimited stop at next
+ItemFacts d inSequence delimited stop at (ItemHeader.ends next) = EndAt d sequenceDelimitationItem delimited stop at next
 ItemFacts d inSequence delimited stop at (ItemHeader.item start end inner) = ItemSpan d stop at start end inner × (inSequence ≡ false → inner ≡ false)
 
 -- ---- the checks of a length and a value
@@ -201,10 +202,10 @@ element-facts d delimited left stop at least =
     let P = ElementFacts d delimited left stop at least in
     choose P (outside d stop at) (λ e. refuses 2 at (omega arith) (omega arith)) λ e0.
     let k = inside-of d stop at e0 in
-    choose P (endsAt delimited stop at) (λ e. ends-facts d itemDelimiter delimited stop at e) λ e1.
+    choose P (endsAt delimited stop at) (λ e. ends-facts d itemDelimitationItem delimited stop at e) λ e1.
     choose P (ltb (stop - at) 8) (λ e. refuses 2 at (omega arith) (omega arith)) λ e2.
     let m = ltb-false (stop - at) 8 e2 in
-    choose P (closedBy d itemDelimiter delimited at) (λ e. closed-facts d itemDelimiter delimited stop at m e) λ e3.
+    choose P (closedBy d itemDelimitationItem delimited at) (λ e. closed-facts d itemDelimitationItem delimited stop at m e) λ e3.
     choose P (eqb (num16 d at) 0xFFFE) (λ e. refuses 3 at (omega arith) (omega arith)) λ e4.
     choose P (ltb (tagAt d at) least) (λ e. refuses 4 at (omega arith) (omega arith)) λ e5.
     form-facts d delimited left stop at least (k .0) (formOf (vrAt d at)) (tagAt d at) (vrAt d at) refl
@@ -236,9 +237,9 @@ item-facts d inSequence delimited stop at =
     let P = ItemFacts d inSequence delimited stop at in
     choose P (outside d stop at) (λ e. refuses 2 at (omega arith) (omega arith)) λ e0.
     let k = inside-of d stop at e0 in
-    choose P (endsAt delimited stop at) (λ e. ends-facts d sequenceDelimiter delimited stop at e) λ e1.
+    choose P (endsAt delimited stop at) (λ e. ends-facts d sequenceDelimitationItem delimited stop at e) λ e1.
     choose P (ltb (stop - at) 8) (λ e. refuses 2 at (omega arith) (omega arith)) λ e2.
     let m = ltb-false (stop - at) 8 e2 in
-    choose P (closedBy d sequenceDelimiter delimited at) (λ e. closed-facts d sequenceDelimiter delimited stop at m e) λ e3.
+    choose P (closedBy d sequenceDelimitationItem delimited at) (λ e. closed-facts d sequenceDelimitationItem delimited stop at m e) λ e3.
     choose P (not (eqb (tagAt d at) itemTag)) (λ e. refuses 3 at (omega arith) (omega arith)) λ e4.
     item-by-facts d inSequence delimited stop at _ refl (eqb-true (tagAt d at) itemTag (not-false (eqb (tagAt d at) itemTag) e4)) (omega arith)

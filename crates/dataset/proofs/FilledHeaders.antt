@@ -13,7 +13,8 @@ use Rattle.slices.specs.If.{if_then_else_}
 use Rattle.dataset.specs.Bytes.{num16, num32, tagAt}
 use Rattle.slices.specs.Lists.{OfBytes}
 use Rattle.dataset.specs.Vr.{formOf, OB, SQ}
-use Rattle.dataset.specs.Header.{faultAt, ElementHeader, ItemHeader, undefined, itemTag, itemDelimiter, sequenceDelimiter, outside, endsAt, closedBy, badLength, tooDeep, undefinedBy, definedBy, valueBy, longAt, byForm, vrOnAt, elementAt, itemBy, itemAt}
+use Rattle.dataset.specs.Header.{faultAt, ElementHeader, ItemHeader, undefined, outside, endsAt, closedBy, badLength, tooDeep, undefinedBy, definedBy, valueBy, longAt, byForm, vrOnAt, elementAt, itemBy, itemAt}
+use Rattle.dataset.specs.Tags.{itemTag, itemDelimitationItem, sequenceDelimitationItem}
 use Rattle.dataset.specs.Order.{Tagged, Sized, ValueAt, NestAt, HeaderExtent, EndsIn}
 use Rattle.dataset.specs.declared.vr.Form.{Form}
 use Rattle.dataset.specs.declared.vr.Form.the-variants.{Short, Long, Neither}
@@ -42,7 +43,7 @@ not-closed d delimiter delimited at h =
     second-false delimited _ (and-f (eqb (tagAt d at) delimiter) (eqb (num32 d (at + 4)) 0) (ne-eqb (tagAt d at) delimiter h))
 
 -- a tag that is not of group FFFE is no item delimiter, in a list of bytes
-no-delimiter : (d : List ℕ) (at : ℕ) → OfBytes d → num16 d at ≢ 0xFFFE → tagAt d at ≢ itemDelimiter
+no-delimiter : (d : List ℕ) (at : ℕ) → OfBytes d → num16 d at ≢ 0xFFFE → tagAt d at ≢ itemDelimitationItem
 unfolding tagAt num16
 no-delimiter d at b g e = g (omega (arith, b (at + 2), b (at + 2 + 1), e))
 
@@ -81,10 +82,10 @@ module _ {A : Type 0} (bad : A) (end : ℕ → A) (rest : A) (d : List ℕ) (del
       (skip (closedBy d delimiter delimited at) (end (at + 8)) rest z (not-closed d delimiter delimited at t) e)))
 
 -- ---- an element's header
-pub element-ends : (d : List ℕ) (delimited : Bool) (left stop at least next : ℕ) → stop ≤ length d → EndsIn d itemDelimiter delimited stop at next
+pub element-ends : (d : List ℕ) (delimited : Bool) (left stop at least next : ℕ) → stop ≤ length d → EndsIn d itemDelimitationItem delimited stop at next
     → ElementHeader.ends next ≡ elementAt d delimited left stop at least
 unfolding elementAt
-element-ends d delimited left stop at least next l h = ends (ElementHeader.refused (faultAt 2 at)) ElementHeader.ends _ d itemDelimiter stop at l delimited next h
+element-ends d delimited left stop at least next l h = ends (ElementHeader.refused (faultAt 2 at)) ElementHeader.ends _ d itemDelimitationItem stop at l delimited next h
 
 -- the checks up to the VR
 tag-passes : (d : List ℕ) (delimited : Bool) (left stop at least tag : ℕ) (z : ElementHeader) → OfBytes d → stop ≤ length d → at + 8 ≤ stop → Tagged d at tag
@@ -92,7 +93,7 @@ tag-passes : (d : List ℕ) (delimited : Bool) (left stop at least tag : ℕ) (z
 unfolding elementAt
 tag-passes d delimited left stop at least tag z b l h t o e =
     let s = t .stands in
-    goes-on (ElementHeader.refused (faultAt 2 at)) ElementHeader.ends _ d itemDelimiter stop at l delimited z h (no-delimiter d at b (t .group))
+    goes-on (ElementHeader.refused (faultAt 2 at)) ElementHeader.ends _ d itemDelimitationItem stop at l delimited z h (no-delimiter d at b (t .group))
     (skip (eqb (num16 d at) 0xFFFE) (ElementHeader.refused (faultAt 3 at)) _ z (ne-eqb (num16 d at) 0xFFFE (t .group))
     (skip (ltb (tagAt d at) least) (ElementHeader.refused (faultAt 4 at)) _ z (le-ltb (tagAt d at) least (omega arith)) (rw (← s) e)))
 
@@ -185,10 +186,10 @@ module _ (d : List ℕ) (b : OfBytes d) (delimited : Bool) (left stop at least t
       nest-passes OB start (num32 d (at + 8)) _ ob-long v refl (fragments-by tag left stop at start (num32 d (at + 8)) u)
 
 -- ---- an item's header
-pub items-end : (d : List ℕ) (inSequence delimited : Bool) (stop at next : ℕ) → stop ≤ length d → EndsIn d sequenceDelimiter delimited stop at next
+pub items-end : (d : List ℕ) (inSequence delimited : Bool) (stop at next : ℕ) → stop ≤ length d → EndsIn d sequenceDelimitationItem delimited stop at next
     → ItemHeader.ends next ≡ itemAt d inSequence delimited stop at
 unfolding itemAt
-items-end d inSequence delimited stop at next l h = ends (ItemHeader.refused (faultAt 2 at)) ItemHeader.ends _ d sequenceDelimiter stop at l delimited next h
+items-end d inSequence delimited stop at next l h = ends (ItemHeader.refused (faultAt 2 at)) ItemHeader.ends _ d sequenceDelimitationItem stop at l delimited next h
 
 item-by : (inSequence : Bool) (n stop at start end : ℕ) (inner : Bool) → (inner ≡ true → inSequence ≡ true) → start ≤ stop → HeaderExtent n stop start end inner
     → ItemHeader.item start end inner ≡ itemBy inSequence stop at start n
@@ -215,6 +216,6 @@ unfolding itemAt
 item-stands d inSequence delimited stop at end inner l t k q h =
     let i = extent-starts (num32 d (at + 4)) stop (at + 8) end inner h k in
     let z = ItemHeader.item (at + 8) end inner in
-    goes-on (ItemHeader.refused (faultAt 2 at)) ItemHeader.ends _ d sequenceDelimiter stop at l delimited z i (λ e. omega (arith, t, e))
+    goes-on (ItemHeader.refused (faultAt 2 at)) ItemHeader.ends _ d sequenceDelimitationItem stop at l delimited z i (λ e. omega (arith, t, e))
     (skip (not (eqb (tagAt d at) itemTag)) (ItemHeader.refused (faultAt 3 at)) _ z (not-f (eqb (tagAt d at) itemTag) (eq-eqb (tagAt d at) itemTag t))
     (item-by inSequence (num32 d (at + 4)) stop at (at + 8) end inner q i h))

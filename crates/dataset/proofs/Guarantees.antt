@@ -8,7 +8,8 @@ use lib.ListN.{length}
 use lib.Dec.{ltb}
 use borrow.Author.Tests.{ltb-false, ltb-true}
 use Rattle.dataset.specs.Bytes.{num32}
-use Rattle.dataset.specs.Header.{ElementHeader, ItemHeader, itemDelimiter, elementAt, itemAt}
+use Rattle.dataset.specs.Header.{ElementHeader, ItemHeader, elementAt, itemAt}
+use Rattle.dataset.specs.Tags.{itemDelimitationItem}
 use Rattle.dataset.specs.Tree.{Span, Elements, Items, tagOf}
 use Rattle.dataset.specs.Order.{HeaderExtent, EndsIn, FragmentsFill, ElementFills, ElementsFill, ItemsFill}
 use Rattle.dataset.proofs.Lies.{ElementsLie}
@@ -41,7 +42,7 @@ abbrev PartsAre : List ℕ → (stop at : ℕ) → List Span → ℕ → Type 0
 PartsAre d stop at ss n = FragmentsFill ss d stop at n
 
 abbrev OneFills : List ℕ → (delimited : Bool) (left stop at least : ℕ) → One → ℕ → Type 0
-OneFills d delimited left stop at least ended n = EndsIn d itemDelimiter delimited stop at n
+OneFills d delimited left stop at least ended n = EndsIn d itemDelimitationItem delimited stop at n
 OneFills d delimited left stop at least (element e) n = (least ≤ tagOf e) × ElementFills e d left stop at n
 
 abbrev ElementsAre : List ℕ → (delimited : Bool) (left stop at least : ℕ) → Elements → ℕ → Type 0
@@ -150,7 +151,7 @@ elements-read d left stop at l delimited least =
     (λ es n. elements-in es d delimited left stop least at n l) (elements-fill (suc (stop - at)) d delimited left stop at least)
 
 abbrev pub OneIs : List ℕ → (delimited : Bool) (left stop least at : ℕ) → One → ℕ → Type 0
-OneIs d delimited left stop least at ended n = EndsIn d itemDelimiter delimited stop at n
+OneIs d delimited left stop least at ended n = EndsIn d itemDelimitationItem delimited stop at n
 OneIs d delimited left stop least at (element e) n = ElementIn d left stop least at e n
 
 pub one-read : (d : List ℕ) (left stop at : ℕ) → stop ≤ length d → (delimited : Bool) (least : ℕ)

@@ -6,7 +6,7 @@ use mathlib.Core.List.{List, [], _∷_}
 use lib.ListN.{length}
 use Rattle.dataset.specs.Bytes.{tagAt}
 use Rattle.dataset.specs.Vr.{OB, SQ}
-use Rattle.dataset.specs.Header.{itemTag}
+use Rattle.dataset.specs.Tags.{itemTag}
 use Rattle.dataset.specs.Reading.{deeper}
 use Rattle.dataset.specs.Tree.{Span, Element, value, sequence, fragments, Elements, none, and, Items, last, item, tagOf}
 use Rattle.dataset.specs.Order.{ValueAt, NestAt}

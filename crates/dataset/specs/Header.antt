@@ -16,6 +16,7 @@ use Rattle.slices.specs.If.{if_then_else_}
 use Rattle.answer.specs.declared.Answer.{Answer}
 use Rattle.answer.specs.Answer as answer
 use Rattle.dataset.specs.Bytes.{num16, num32, tagAt, vrAt}
+use Rattle.dataset.specs.Tags.{itemTag, itemDelimitationItem, sequenceDelimitationItem}
 use Rattle.dataset.specs.Vr.{formOf, OB, SQ}
 use Rattle.dataset.specs.declared.vr.Form.{Form}
 use Rattle.dataset.specs.declared.vr.Form.the-variants.{Short, Long, Neither}
@@ -65,18 +66,6 @@ itemCase (itemHeader.Item start end delimited) = ItemHeader.item start end delim
 -- "The length FFFFFFFF is undefined." (2.8)
 abbrev pub undefined : ℕ
 undefined = 0xFFFFFFFF
-
--- "the tag (FFFE,E000) and a length" (2.12)
-abbrev pub itemTag : ℕ
-itemTag = 0xFFFEE000
-
--- "(FFFE,E00D) with length 0, the item delimiter" (2.14)
-abbrev pub itemDelimiter : ℕ
-itemDelimiter = 0xFFFEE00D
-
--- "(FFFE,E0DD) with length 0, the sequence delimiter" (2.15); it ends fragments too (2.17)
-abbrev pub sequenceDelimiter : ℕ
-sequenceDelimiter = 0xFFFEE0DD
 
 -- Of no rule (docs/DECISIONS.md, R11): an extent that ends before `at`, or does not lie inside the data, has too few bytes. The reading
 -- never asks this.
@@ -144,7 +133,7 @@ elementAt d delimited left stop at least =
     if outside d stop at then ElementHeader.refused (faultAt 2 at) else
     if endsAt delimited stop at then ElementHeader.ends at else
     if ltb (stop - at) 8 then ElementHeader.refused (faultAt 2 at) else
-    if closedBy d itemDelimiter delimited at then ElementHeader.ends (at + 8) else
+    if closedBy d itemDelimitationItem delimited at then ElementHeader.ends (at + 8) else
     if eqb (num16 d at) 0xFFFE then ElementHeader.refused (faultAt 3 at) else
     if ltb (tagAt d at) least then ElementHeader.refused (faultAt 4 at) else
     vrOnAt d (tagAt d at) left stop at
@@ -168,6 +157,6 @@ itemAt d inSequence delimited stop at =
     if outside d stop at then ItemHeader.refused (faultAt 2 at) else
     if endsAt delimited stop at then ItemHeader.ends at else
     if ltb (stop - at) 8 then ItemHeader.refused (faultAt 2 at) else
-    if closedBy d sequenceDelimiter delimited at then ItemHeader.ends (at + 8) else
+    if closedBy d sequenceDelimitationItem delimited at then ItemHeader.ends (at + 8) else
     if not (eqb (tagAt d at) itemTag) then ItemHeader.refused (faultAt 3 at) else
     itemBy inSequence stop at (at + 8) (num32 d (at + 4))

@@ -1,4 +1,5 @@
 pub mod Bytes
+pub mod Tags
 pub mod Vr
 pub mod Header
 pub mod Tree

@@ -8,7 +8,8 @@ use mathlib.Core.List.{List, [], _∷_}
 use Rattle.slices.specs.If.{if_then_else_}
 use Rattle.dataset.specs.Bytes.{num16, num32, tagAt, vrAt}
 use Rattle.dataset.specs.Vr.{OB, SQ, formOf}
-use Rattle.dataset.specs.Header.{undefined, itemTag, itemDelimiter, sequenceDelimiter}
+use Rattle.dataset.specs.Header.{undefined}
+use Rattle.dataset.specs.Tags.{itemTag, itemDelimitationItem, sequenceDelimitationItem}
 use Rattle.dataset.specs.Reading.{deeper}
 use Rattle.dataset.specs.Tree.{Span, Element, value, sequence, fragments, Elements, none, and, Items, last, item, tagOf}
 use Rattle.dataset.specs.declared.vr.Form.{Form}
@@ -58,7 +59,7 @@ EndsIn d delimiter false stop at next = (at ≡ stop) × (next ≡ at)
 
 -- fragments, each after the one before it, from `at` to what follows their delimiter at `next`, in an extent up to `stop`
 unfoldable pub FragmentsFill : List Span → List ℕ → (stop at next : ℕ) → Type 0
-FragmentsFill [] d stop at next = EndsIn d sequenceDelimiter true stop at next
+FragmentsFill [] d stop at next = EndsIn d sequenceDelimitationItem true stop at next
 FragmentsFill (s ∷ ss) d stop at next =
     (tagAt d at ≡ itemTag) × (s .start ≡ at + 8) × HeaderExtent (num32 d (at + 4)) stop (s .start) (s .end) false × FragmentsFill ss d stop (s .end) next
 
@@ -79,12 +80,12 @@ unfoldable mutual
       × (span .end ≡ next - 8)
 
   pub ElementsFill : Elements → List ℕ → (delimited : Bool) (left stop at least next : ℕ) → Type 0
-  ElementsFill none d delimited left stop at least next = EndsIn d itemDelimiter delimited stop at next
+  ElementsFill none d delimited left stop at least next = EndsIn d itemDelimitationItem delimited stop at next
   ElementsFill (and e rest) d delimited left stop at least next =
       (mid : ℕ) × (least ≤ tagOf e) × ElementFills e d left stop at mid × ElementsFill rest d delimited left stop mid (tagOf e + 1) next
 
   pub ItemsFill : Items → List ℕ → (delimited : Bool) (left stop at next : ℕ) → Type 0
-  ItemsFill last d delimited left stop at next = EndsIn d sequenceDelimiter delimited stop at next
+  ItemsFill last d delimited left stop at next = EndsIn d sequenceDelimitationItem delimited stop at next
   ItemsFill (item p elements rest) d delimited left stop at next =
       (inner : Bool) × (end : ℕ) × (mid : ℕ) × (p ≡ at) × (tagAt d at ≡ itemTag) × HeaderExtent (num32 d (at + 4)) stop (at + 8) end inner
       × ElementsFill elements d inner (deeper left) end (at + 8) 0 mid × ItemsFill rest d delimited left stop mid next

@@ -1,5 +1,5 @@
 -- The reading of a data set: "Of several faults the leftmost is given." (RULES, 2.20), or the tree of its elements. Assumes nothing.
-use Prim.Native.Nat.{ℕ, zero, suc, _+_, _-_}
+use Prim.Native.Nat.{ℕ, zero, suc, _+_, _-_, _≤_}
 use mathlib.Core.Bool.{Bool, true, false}
 use mathlib.Core.List.{List, [], _∷_}
 use mathlib.Core.Option.{Option, some}
@@ -133,6 +133,21 @@ module _ (h : Headers) where
   unfoldable pub oneAt : List ℕ → (delimited : Bool) (left stop at least : ℕ) → Reading One
   oneAt d delimited left stop at least =
       byHeader (λ inner. itemsAt d inner left) (fragmentsAt d left stop) at (h .element d delimited left stop at least)
+
+-- The same with no fuel in it: in an extent, the elements of a data set are one element and the rest, items are one item, whose elements are
+-- a data set one level down, and the rest, and fragments one fragment and the rest. `Unfolds` is proved (a field of `Theorems`, Theorems.antt).
+pub record Equations (d : List ℕ) (delimited : Bool) (left stop at : ℕ) : Type 0 where
+  pub elements : (least : ℕ)
+      → elementsAt explicit d delimited left stop at least
+      ≡ (oneAt explicit d delimited left stop at least >>= byOne (elementsAt explicit d delimited left stop))
+  pub items :
+      itemsAt explicit d delimited left stop at
+      ≡ byItem (λ inner end start. elementsAt explicit d inner (deeper left) end start 0) (itemsAt explicit d delimited left stop) at
+      (itemAt d true delimited stop at)
+  pub fragments : fragmentsAt explicit d left stop at ≡ byFragment (fragmentsAt explicit d left stop) (itemAt d false true stop at)
+
+abbrev pub Unfolds : Type 0
+Unfolds = (d : List ℕ) (delimited : Bool) (left stop at : ℕ) → at ≤ stop → Equations d delimited left stop at
 
 -- "at most 1,048,576 bytes" (2.1)
 abbrev pub sizeLimit : ℕ

@@ -7,9 +7,9 @@ use mathlib.Core.List.{List}
 use lib.ListN.{length, take}
 use Rattle.answer.specs.declared.Answer.{Answer}
 use Rattle.slices.specs.Lists.{OfBytes}
-use Rattle.dataset.specs.Header.{elementAt, itemAt}
+use Rattle.dataset.specs.Header.{elementAt}
 use Rattle.dataset.specs.Tree.{Elements}
-use Rattle.dataset.specs.Reading.{fault, read, _>>=_, explicit, byOne, byItem, byFragment, fragmentsBy, elementsBy, itemsBy, elementsAt, itemsAt, fragmentsAt, oneAt, sizeLimit, levels, deeper, dataSet, answerOf, WellFormed}
+use Rattle.dataset.specs.Reading.{fault, read, explicit, Unfolds, fragmentsBy, elementsBy, itemsBy, elementsAt, itemsAt, fragmentsAt, oneAt, sizeLimit, levels, dataSet, answerOf, WellFormed}
 use Rattle.dataset.specs.Lookup.{found}
 use Rattle.dataset.specs.declared.lookup.Found.{Found}
 use Rattle.dataset.specs.Order.{ElementsFill}
@@ -68,21 +68,6 @@ pub record Enough (n : ℕ) (d : List ℕ) (delimited : Bool) (left stop at : �
 
 abbrev pub FuelSuffices : Type 0
 FuelSuffices = (n : ℕ) (d : List ℕ) (delimited : Bool) (left stop at : ℕ) → at ≤ stop → stop - at < n → Enough n d delimited left stop at
-
--- So the reading obeys equations with no fuel in them: the elements of a data set are one element and the rest, items are one item, whose
--- elements are a data set one level down, and the rest, and fragments one fragment and the rest.
-pub record Equations (d : List ℕ) (delimited : Bool) (left stop at : ℕ) : Type 0 where
-  pub elements : (least : ℕ)
-      → elementsAt explicit d delimited left stop at least
-      ≡ (oneAt explicit d delimited left stop at least >>= byOne (elementsAt explicit d delimited left stop))
-  pub items :
-      itemsAt explicit d delimited left stop at
-      ≡ byItem (λ inner end start. elementsAt explicit d inner (deeper left) end start 0) (itemsAt explicit d delimited left stop) at
-      (itemAt d true delimited stop at)
-  pub fragments : fragmentsAt explicit d left stop at ≡ byFragment (fragmentsAt explicit d left stop) (itemAt d false true stop at)
-
-abbrev pub Unfolds : Type 0
-Unfolds = (d : List ℕ) (delimited : Bool) (left stop at : ℕ) → at ≤ stop → Equations d delimited left stop at
 
 -- A caller's levels above 16 count as 16, for a header and for a whole element: no call goes deeper than the reading of a data set does.
 pub record AsAtTheTop (d : List ℕ) (delimited : Bool) (left stop at least : ℕ) : Type 0 where

@@ -1,5 +1,6 @@
 // What stands at an offset of a data set, in an element's place or in an item's: the checks of one header, in their order.
 use crate::bytes;
+use crate::tags;
 use crate::vr;
 use crate::vr::Form;
 use answer::Answer;
@@ -51,12 +52,6 @@ pub enum ItemHeader {
 }
 
 const UNDEFINED: usize = 0xFFFFFFFF;
-
-const ITEM: u32 = 0xFFFEE000;
-
-const ITEM_DELIMITER: u32 = 0xFFFEE00D;
-
-const SEQUENCE_DELIMITER: u32 = 0xFFFEE0DD;
 
 // The fault of the header at `at`. Every fault of the reading but 1 is made here.
 fn fault(number: u8, at: usize) -> Answer
@@ -237,7 +232,7 @@ pub fn header(
     if stop - at < 8 {
         return refused_element(at, 2);
     }
-    if closed_by(d, ITEM_DELIMITER, delimited, at) {
+    if closed_by(d, tags::ITEM_DELIMITATION_ITEM, delimited, at) {
         return ElementHeader::End(at + 8);
     }
     if bytes::number16(d, at) == 0xFFFE {
@@ -298,10 +293,10 @@ pub fn item_header(
     if stop - at < 8 {
         return refused_item(at, 2);
     }
-    if closed_by(d, SEQUENCE_DELIMITER, delimited, at) {
+    if closed_by(d, tags::SEQUENCE_DELIMITATION_ITEM, delimited, at) {
         return ItemHeader::End(at + 8);
     }
-    if bytes::tag_at(d, at) != ITEM {
+    if bytes::tag_at(d, at) != tags::ITEM {
         return refused_item(at, 3);
     }
     let len = bytes::number32(d, at + 4);

@@ -3,4 +3,5 @@ pub mod bytes;
 pub mod header;
 pub mod lookup;
 pub mod reading;
+pub mod tags;
 pub mod vr;

@@ -17,7 +17,8 @@ use Rattle.dataset.proofs.Bounded.{explicit-bounded}
 use Rattle.dataset.proofs.Unfolding.{items-are}
 use Rattle.dataset.proofs.Outcomes.{elements-next}
 use Rattle.dataset.proofs.Steps.{item-at}
-use Rattle.mac.specs.Selection.{macIdNumber, dataElementsSigned, firstItem}
+use Rattle.mac.specs.Selection.{firstItem}
+use Rattle.dataset.specs.Tags.{macIdNumber, dataElementsSigned}
 use Rattle.mac.specs.Inner.Extent.{Lies, elementsIn, itemsIn}
 use Rattle.mac.specs.Inner.Seek.{SoughtIn, PlaceLies}
 use Rattle.mac.specs.Inner.Selection.{hasKey, TestsKey, ItemFound, FoundItemIn}

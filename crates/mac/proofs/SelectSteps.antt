@@ -16,7 +16,8 @@ use Rattle.dataset.specs.Vr.{AT, CS, UI, US}
 use Rattle.dataset.specs.Tree.{Elements}
 use Rattle.dataset.specs.Reading.{Reading, fault, read}
 use Rattle.dataset.specs.Lookup.{elementOf}
-use Rattle.mac.specs.Selection.{macIdNumber, macCalculationTransferSyntaxUid, macAlgorithm, dataElementsSigned, macParametersSequence, digitalSignaturesSequence, itemsOf, valueOf, itemWhere, macIdOf, signatureItem, parametersItem, badTransferSyntax, badAlgorithm, need, selected, parametersSelect, select}
+use Rattle.mac.specs.Selection.{itemsOf, valueOf, itemWhere, macIdOf, signatureItem, parametersItem, badTransferSyntax, badAlgorithm, need, selected, parametersSelect, select}
+use Rattle.dataset.specs.Tags.{macIdNumber, macCalculationTransferSyntaxUid, macAlgorithm, dataElementsSigned, macParametersSequence, digitalSignaturesSequence}
 use Rattle.mac.specs.Inner.Extent.{elementsIn, Lies}
 use Rattle.mac.specs.Inner.Seek.{Placed, PlaceLies, SoughtAs, SoughtIn, Located}
 use Rattle.mac.specs.Inner.Selection.{hasKey, FoundItemAs, FoundItemUnder, BadSyntax, BadAlgorithm, ListOf, SelectOf, SelectedIn}

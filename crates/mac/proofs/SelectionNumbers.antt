@@ -11,7 +11,8 @@ use Rattle.slices.specs.If.{if_then_else_}
 use Rattle.dataset.specs.Vr.{AT, CS, UI}
 use Rattle.dataset.specs.Tree.{Elements}
 use Rattle.dataset.specs.Lookup.{elementOf}
-use Rattle.mac.specs.Selection.{macCalculationTransferSyntaxUid, macAlgorithm, dataElementsSigned, valueOf, need, Selection, refusal, selected, signatureItem, macIdOf, parametersItem, parametersSelect, select, badTransferSyntax, badAlgorithm}
+use Rattle.mac.specs.Selection.{valueOf, need, Selection, refusal, selected, signatureItem, macIdOf, parametersItem, parametersSelect, select, badTransferSyntax, badAlgorithm}
+use Rattle.dataset.specs.Tags.{macCalculationTransferSyntaxUid, macAlgorithm, dataElementsSigned}
 
 abbrev pub Numbered : Selection → Type 0
 Numbered (refusal number) = 18 ≤ number

@@ -15,7 +15,8 @@ use Rattle.slices.specs.Lists.{between, sameBytes, allAre}
 use Rattle.dataset.specs.Vr.{US}
 use Rattle.dataset.specs.Tree.{Element}
 use Rattle.dataset.specs.Lookup.{elementOf}
-use Rattle.mac.specs.Selection.{macIdNumber, valueOf, twoBytes, macIdOf, lessNul, implicitVrLittleEndian, explicitVrBigEndian, badTransferSyntax, SHA256, isTerm, badAlgorithm}
+use Rattle.mac.specs.Selection.{valueOf, twoBytes, macIdOf, lessNul, implicitVrLittleEndian, explicitVrBigEndian, badTransferSyntax, SHA256, isTerm, badAlgorithm}
+use Rattle.dataset.specs.Tags.{macIdNumber}
 use Rattle.mac.specs.Inner.Seek.{Placed, PlaceLies}
 use Rattle.mac.specs.Inner.Selection.{KeyLies, Tests, SameMacId, TestsKey, LessNul}
 use Rattle.mac.specs.declared.seek.Place.{Place}

@@ -10,31 +10,12 @@ use lib.Dec.{eqb}
 use lib.ListN.{length, take, drop, getD}
 use Rattle.slices.specs.If.{if_then_else_}
 use Rattle.slices.specs.Lists.{between, sameBytes, allAre}
+use Rattle.dataset.specs.Tags.{macIdNumber, macCalculationTransferSyntaxUid, macAlgorithm, dataElementsSigned, macParametersSequence, digitalSignaturesSequence}
 use Rattle.dataset.specs.Vr.{AT, CS, UI, US}
 use Rattle.dataset.specs.Tree.{Element, Elements, Items}
 use Rattle.dataset.specs.Lookup.{elementOf}
 use Rattle.mac.specs.declared.signature_mode.Signature.{Signature}
 use Rattle.mac.specs.declared.signature_mode.Signature.the-variants as signature
-
--- ---- the tags, by their names in the data dictionary
-
-abbrev pub macIdNumber : ℕ
-macIdNumber = 0x04000005
-
-abbrev pub macCalculationTransferSyntaxUid : ℕ
-macCalculationTransferSyntaxUid = 0x04000010
-
-abbrev pub macAlgorithm : ℕ
-macAlgorithm = 0x04000015
-
-abbrev pub dataElementsSigned : ℕ
-dataElementsSigned = 0x04000020
-
-abbrev pub macParametersSequence : ℕ
-macParametersSequence = 0x4FFE0001
-
-abbrev pub digitalSignaturesSequence : ℕ
-digitalSignaturesSequence = 0xFFFAFFFA
 
 -- ---- items and values
 

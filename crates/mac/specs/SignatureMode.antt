@@ -11,6 +11,7 @@ use lib.ListN.{length}
 use Rattle.slices.specs.If.{if_then_else_}
 use Rattle.answer.specs.declared.Answer.{Answer}
 use Rattle.answer.specs.Answer.{refused, _orElse_}
+use Rattle.dataset.specs.Tags.{certificateOfSigner, signatureValue, certifiedTimestampType, certifiedTimestamp}
 use Rattle.dataset.specs.Tree.{Element, Elements, tagOf}
 use Rattle.dataset.specs.Reading.{dataSet, answerOf, tree}
 use Rattle.mac.specs.TagList.{barred, tagsIn, listAnswer}
@@ -21,20 +22,7 @@ use Rattle.mac.specs.Result.{Result}
 use Rattle.mac.specs.Selection.{Selection, refusal, selected, numberOf, select}
 use Rattle.mac.specs.declared.signature_mode.Signature.{Signature}
 
--- ---- the signature item's own elements; the four named tags, by their names in the data dictionary
-
-abbrev pub certificateOfSigner : ℕ
-certificateOfSigner = 0x04000115
-
--- "Signature" in the data dictionary; the word alone would be mistaken for the caller's choice
-abbrev pub signatureValue : ℕ
-signatureValue = 0x04000120
-
-abbrev pub certifiedTimestampType : ℕ
-certifiedTimestampType = 0x04000305
-
-abbrev pub certifiedTimestamp : ℕ
-certifiedTimestamp = 0x04000310
+-- ---- the signature item's own elements
 
 -- the four named tags, 8.4: "(0400,0115), (0400,0120), (0400,0305) and (0400,0310)"
 unfoldable pub named : (tag : ℕ) → Bool

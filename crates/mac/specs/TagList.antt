@@ -9,6 +9,7 @@ use Rattle.slices.specs.If.{if_then_else_}
 use Rattle.answer.specs.declared.Answer.{Answer}
 use Rattle.answer.specs.Answer.{accepted, refused, _orElse_}
 use Rattle.dataset.specs.Bytes.{tagAt}
+use Rattle.dataset.specs.Tags.{lengthToEnd, macParametersSequence, dataSetTrailingPadding, itemDelimitationItem}
 
 -- 4.1: "Each tag takes four bytes, coded as in a data set." Bytes left over are not seen: 10 comes before.
 unfoldable pub tagsIn : List ℕ → List ℕ
@@ -23,12 +24,12 @@ tagsIn (a ∷ b ∷ c ∷ []) = []
 unfoldable pub barred : (tag : ℕ) → Bool
 barred tag =
     eqb (tag % 65536) 0
-    || (eqb tag 0x00080001
+    || (eqb tag lengthToEnd
     || (ltb (tag / 65536) 0x0008
     || (eqb (tag / 65536) 0xFFFA
-    || (eqb tag 0x4FFE0001
-    || (eqb tag 0xFFFCFFFC
-    || eqb tag 0xFFFEE00D)))))
+    || (eqb tag macParametersSequence
+    || (eqb tag dataSetTrailingPadding
+    || eqb tag itemDelimitationItem)))))
 
 -- what an element adds to the rest of a row, by whether it is barred. 5.4: "A barred element in a sequence gives nothing"
 abbrev pub unlessBarred : {A : Type 0} → (isBarred : Bool) (add : A → A) (rest : A) → A

@@ -5,6 +5,7 @@ use crate::tag_list;
 use crate::writer;
 use crate::writer::OneWritten;
 use crate::writer::Written;
+use dataset::tags;
 ghost use mathlib.Core.Path.{_≡_};
 ghost use mathlib.Core.Bool.{_||_};
 ghost use Prim.Native.Nat.{_+_, _≤_};
@@ -14,22 +15,13 @@ ghost use Rattle.mac.specs.SignatureMode.{named};
 ghost use Rattle.mac.specs.Inner.Extent.{Lies};
 ghost use Rattle.mac.specs.Inner.Own.{OwnWalk, ownKeep};
 
-const CERTIFICATE_OF_SIGNER: u32 = 0x04000115;
-
-// "Signature" in the data dictionary
-const SIGNATURE_VALUE: u32 = 0x04000120;
-
-const CERTIFIED_TIMESTAMP_TYPE: u32 = 0x04000305;
-
-const CERTIFIED_TIMESTAMP: u32 = 0x04000310;
-
 // Whether this is one of the four tags that the signature item leaves out by name.
 fn is_named(tag: u32) -> bool
     ensures { λ r. ⌜ r ≡ named tag ⌝ }
 {
-    (tag == CERTIFICATE_OF_SIGNER)
-        | ((tag == SIGNATURE_VALUE)
-            | ((tag == CERTIFIED_TIMESTAMP_TYPE) | (tag == CERTIFIED_TIMESTAMP)))
+    (tag == tags::CERTIFICATE_OF_SIGNER)
+        | ((tag == tags::SIGNATURE_VALUE)
+            | ((tag == tags::CERTIFIED_TIMESTAMP_TYPE) | (tag == tags::CERTIFIED_TIMESTAMP)))
 }
 
 // Whether an element is left out, by its tag, whether it is UN and whether it holds UN.

@@ -7,6 +7,7 @@ use answer::Answer;
 use dataset::header;
 use dataset::header::ItemHeader;
 use dataset::reading;
+use dataset::tags;
 use dataset::vr;
 ghost use mathlib.Core.Path.{_≡_};
 ghost use mathlib.Core.Bool.{_&&_};
@@ -21,18 +22,6 @@ ghost use Rattle.mac.specs.Inner.Extent.{Lies, elementsIn, itemsIn};
 ghost use Rattle.mac.specs.Inner.Seek.{PlaceLies, Located};
 ghost use Rattle.mac.specs.Inner.Selection.{SameMacId, KeyLies, TestsKey, FoundItemIn, FoundItemUnder, LessNul, BadSyntax, BadAlgorithm, ListOf, SelectOf, SelectedIn};
 ghost use Rattle.mac.specs.declared.selection.Selection.the-variants as selection;
-
-const MAC_ID_NUMBER: u32 = 0x04000005;
-
-const MAC_CALCULATION_TRANSFER_SYNTAX_UID: u32 = 0x04000010;
-
-const MAC_ALGORITHM: u32 = 0x04000015;
-
-const DATA_ELEMENTS_SIGNED: u32 = 0x04000020;
-
-const MAC_PARAMETERS_SEQUENCE: u32 = 0x4FFE0001;
-
-const DIGITAL_SIGNATURES_SEQUENCE: u32 = 0xFFFAFFFA;
 
 // By what an item of a sequence is found: its number from 0, or its MAC ID Number, the bytes of the data set from start to end.
 pub(crate) enum ItemKey {
@@ -120,7 +109,7 @@ fn find_item(d: &[u8], x: Extent, key: ItemKey) -> FoundItem
                     stop: end,
                     from: start,
                 };
-                match seek::seek(d, inside, MAC_ID_NUMBER, DATA_ELEMENTS_SIGNED) {
+                match seek::seek(d, inside, tags::MAC_ID_NUMBER, tags::DATA_ELEMENTS_SIGNED) {
                     Sought::Refused(_) => return FoundItem::Absent,
                     Sought::Past {
                         first: id,
@@ -237,8 +226,8 @@ fn list_of(uid: &[u8], d: &[u8], item: Extent, parameters: Extent, list: Place) 
     let fields = seek::seek(
         d,
         parameters,
-        MAC_CALCULATION_TRANSFER_SYNTAX_UID,
-        MAC_ALGORITHM,
+        tags::MAC_CALCULATION_TRANSFER_SYNTAX_UID,
+        tags::MAC_ALGORITHM,
     );
     let Sought::Past {
         first: syntax,
@@ -301,7 +290,12 @@ pub(crate) fn select(uid: &[u8], number: u64, d: &[u8], x: Extent) -> Selection
     requires { ⌜ Lies (now d) x ⌝ }
     ensures { λ r. ⌜ SelectedIn (now (uid .entry)) number (now (d .entry)) (elementsIn (now (d .entry)) x) r ⌝ }
 {
-    match seek::seek(d, x, MAC_PARAMETERS_SEQUENCE, DIGITAL_SIGNATURES_SEQUENCE) {
+    match seek::seek(
+        d,
+        x,
+        tags::MAC_PARAMETERS_SEQUENCE,
+        tags::DIGITAL_SIGNATURES_SEQUENCE,
+    ) {
         Sought::Refused(fault) => Selection::Refused(fault),
         Sought::Past {
             first: parameters,

@@ -2,6 +2,7 @@
 use answer::Answer;
 use dataset::bytes;
 use dataset::bytes::TagIn;
+use dataset::tags;
 ghost use mathlib.Core.Path.{_≡_};
 ghost use Prim.Native.Nat.{_+_, _*_, _<_, _≤_};
 ghost use lib.ListN.{length};
@@ -25,10 +26,12 @@ pub(crate) fn is_barred(tag: u32) -> bool
 {
     let group = tag / 65536;
     (tag % 65536 == 0)
-        | ((tag == 0x00080001)
+        | ((tag == tags::LENGTH_TO_END)
             | ((group < 0x0008)
                 | ((group == 0xFFFA)
-                    | ((tag == 0x4FFE0001) | ((tag == 0xFFFCFFFC) | (tag == 0xFFFEE00D))))))
+                    | ((tag == tags::MAC_PARAMETERS_SEQUENCE)
+                        | ((tag == tags::DATA_SET_TRAILING_PADDING)
+                            | (tag == tags::ITEM_DELIMITATION_ITEM))))))
 }
 
 // Whether a list of so many bytes is refused.

@@ -14,7 +14,8 @@ use Rattle.dataset.specs.Tree.{Element, Elements, Items}
 use Rattle.dataset.specs.Lookup.{elementOf}
 use Rattle.dataset.proofs.Bools.{choose}
 use Rattle.mac.specs.Stream.{itemTagBytes, streamOf, elementsStream, itemsStream, foundStream}
-use Rattle.mac.specs.Selection.{macCalculationTransferSyntaxUid, macAlgorithm, dataElementsSigned, digitalSignaturesSequence, valueOf, itemsOf, firstItem, itemWhere, signatureItem, macIdOf, parametersItem, badTransferSyntax, badAlgorithm, Selection, refusal, selected, need, parametersSelect, select}
+use Rattle.mac.specs.Selection.{valueOf, itemsOf, firstItem, itemWhere, signatureItem, macIdOf, parametersItem, badTransferSyntax, badAlgorithm, Selection, refusal, selected, need, parametersSelect, select}
+use Rattle.dataset.specs.Tags.{macCalculationTransferSyntaxUid, macAlgorithm, dataElementsSigned, digitalSignaturesSequence}
 
 -- what holds of every refusal of 18 to 23, and of every list with the signature item, holds of what is selected
 module _ (P : Selection → Type 0) (refused : (number : ℕ) → 18 ≤ number → number ≤ 23 → P (refusal number)) where

@@ -6,7 +6,8 @@ use native.Mathlib.Omega.{arith}
 use lib.ListN.{length, length-append}
 use Rattle.dataset.specs.Reading.{dataSet, tree}
 use Rattle.mac.specs.TagList.{barred, tagsIn, listAnswer}
-use Rattle.mac.specs.Selection.{digitalSignaturesSequence, numberOf}
+use Rattle.mac.specs.Selection.{numberOf}
+use Rattle.dataset.specs.Tags.{digitalSignaturesSequence}
 use Rattle.mac.specs.SignatureMode.{streamBy, Call, selection, stream}
 use Rattle.mac_theorems.specs.Calls.{inListMode, inSignatureMode, selectedList}
 use Rattle.mac_theorems.specs.Theorems.{NeverLonger}

@@ -14,7 +14,8 @@ use Rattle.dataset.specs.Vr.{CS, UI, US}
 use Rattle.dataset.specs.Tree.{Element, Elements, Items}
 use Rattle.dataset.specs.Reading.{Reading, fault, read}
 use Rattle.dataset.specs.Lookup.{elementOf}
-use Rattle.mac.specs.Selection.{macIdNumber, dataElementsSigned, macParametersSequence, digitalSignaturesSequence, itemsOf, valueOf, firstItem, itemWhere, twoBytes, macIdOf, isId, lessNul, badTransferSyntax, badAlgorithm, parametersSelect, select, refusal, selected}
+use Rattle.mac.specs.Selection.{itemsOf, valueOf, firstItem, itemWhere, twoBytes, macIdOf, isId, lessNul, badTransferSyntax, badAlgorithm, parametersSelect, select, refusal, selected}
+use Rattle.dataset.specs.Tags.{macIdNumber, dataElementsSigned, macParametersSequence, digitalSignaturesSequence}
 use Rattle.mac.specs.Selection as mode
 use Rattle.mac.specs.Inner.Extent.{Lies, elementsIn}
 use Rattle.mac.specs.Inner.Seek.{Placed}
