@@ -190,7 +190,7 @@ closed-facts d delimiter delimited stop at h e =
       ends = rw (z .0) (eqb-true (tagAt d at) delimiter (y .0), eqb-true (num32 d (at + 4)) 0 (y .1), refl, omega arith);
     }
 
-inside-of : (d : List ℕ) (stop at : ℕ) → outside d stop at ≡ false → (stop ≤ length d) × (at ≤ stop)
+pub inside-of : (d : List ℕ) (stop at : ℕ) → outside d stop at ≡ false → (stop ≤ length d) × (at ≤ stop)
 inside-of d stop at e =
     let z = neither (ltb (length d) stop) (ltb stop at) e in
     (ltb-false (length d) stop (z .0), ltb-false stop at (z .1))

@@ -142,6 +142,17 @@ mutual
       (λ inner end i. elements-fill n d inner (deeper left) end i 0)
       (λ i. items-fill n d delimited left stop i)
 
+-- ---- items of defined length fill it
+all-filled : (is : Items) (d : List ℕ) (left stop at n : ℕ) → ItemsFill is d false left stop at n → n ≡ stop
+unfolding ItemsFill
+all-filled Items.last d left stop at n r = r .1 ∙ r .0
+all-filled (Items.item p es is) d left stop at n r = all-filled is d left stop (r .2) n (r .7)
+
+pub items-filled : (d : List ℕ) (left stop at : ℕ) (is : Items) (n : ℕ) → itemsAt explicit d false left stop at ≡ read is n → n ≡ stop
+unfolding itemsAt
+items-filled d left stop at is n e =
+    all-filled is d left stop at n (holds-read (ItemsAre d false left stop at) (itemsAt explicit d false left stop at) is n (items-fill (suc (stop - at)) d false left stop at) e)
+
 -- ---- what is read in an extent inside the data set lies in it
 pub elements-read : (d : List ℕ) (left stop at : ℕ) → stop ≤ length d → (delimited : Bool) (least : ℕ)
     → Holds (ElementsIn d delimited left stop least at) (elementsAt explicit d delimited left stop at least)

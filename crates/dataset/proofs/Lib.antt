@@ -15,4 +15,7 @@ pub mod FilledHeaders
 pub mod Filled
 pub mod FirstFault
 pub mod LookupSteps
+pub mod ExtentSteps
+pub mod Places
+pub mod SeekSteps
 pub mod Theorems

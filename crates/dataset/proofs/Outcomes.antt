@@ -1,12 +1,14 @@
 -- What the readers answer, and what it says of the reading: the laws of `outcomeOf` and `oneOutcomeOf`. Assumes nothing.
 use Prim.Native.Nat.{ℕ, suc, _-_, _≤_}
 use mathlib.Core.Path.{_≡_, refl, sym, ap, ap₂}
-use mathlib.Core.Bool.{Bool, true≢false}
+use mathlib.Core.Bool.{Bool, true, true≢false}
 use mathlib.Core.List.{List}
 use native.Mathlib.Omega.{arith}
 use Rattle.answer.specs.declared.Answer.{Answer}
+use Rattle.slices.specs.If.{if_then_else_}
+use Rattle.dataset.specs.Header.{faultAt, outside, elementAt}
 use Rattle.dataset.specs.Tree.{Span, span, Element, tagOf, vrOf, spanOf}
-use Rattle.dataset.specs.Reading.{Reading, fault, read, _>>=_, One, ended, element, explicit, fragmentsAt, elementsAt, itemsAt, Outline, handedOn, oneCase}
+use Rattle.dataset.specs.Reading.{Reading, fault, read, _>>=_, One, ended, element, explicit, byHeader, elementsBy, fragmentsAt, elementsAt, itemsAt, Outline, handedOn, oneCase}
 use Rattle.dataset.specs.Inner.Outcomes.{outcomeOf, oneOutcomeOf}
 use Rattle.dataset.specs.declared.reading.Outcome.{Outcome}
 use Rattle.dataset.specs.declared.reading.Outcome.the-variants as outcome
@@ -107,3 +109,8 @@ is-element (fault g) tag vr start end next e = absurd (true≢false (cc))
 is-element (read ended m) tag vr start end next e = absurd (true≢false (cc))
 is-element (read (element x) m) tag vr start end next e =
     let q : m ≡ next = cc in record { what = x; is = ap (read (element x)) q; tagged = cc; letters = cc; starts = cc; ends = cc }
+
+-- ---- an extent that does not lie inside the data: its first header refuses it
+pub outside-refused : (d : List ℕ) (delimited : Bool) (left stop at least : ℕ) → outside d stop at ≡ true → elementsAt explicit d delimited left stop at least ≡ fault (faultAt 2 at)
+unfolding elementsAt elementsBy elementAt byHeader if_then_else_
+outside-refused d delimited left stop at least e = rw e

@@ -54,7 +54,7 @@ pub enum ItemHeader {
 const UNDEFINED: usize = 0xFFFFFFFF;
 
 // The fault of the header at `at`. Every fault of the reading but 1 is made here.
-fn fault(number: u8, at: usize) -> Answer
+pub(crate) fn fault(number: u8, at: usize) -> Answer
     ensures { λ r. ⌜ r ≡ faultAt number at ⌝ }
 {
     Answer::refused(number, at)
@@ -155,7 +155,7 @@ fn value_by(
 }
 
 // Whether the extent does not lie inside the data, or ends before `at`.
-fn is_outside(d: &[u8], stop: usize, at: usize) -> bool
+pub(crate) fn is_outside(d: &[u8], stop: usize, at: usize) -> bool
     ensures { λ r. ⌜ r ≡ outside (now (d .entry)) stop at ⌝ }
 {
     (d.len() < stop) | (stop < at)

@@ -1,7 +1,9 @@
-// Data sets in Explicit VR Little Endian (PS3.5): tags, headers, the reading, the lookup.
+// Data sets in Explicit VR Little Endian (PS3.5): tags, headers, the reading, extents, the lookup.
 pub mod bytes;
+pub mod extent;
 pub mod header;
 pub mod lookup;
 pub mod reading;
+pub mod seek;
 pub mod tags;
 pub mod vr;

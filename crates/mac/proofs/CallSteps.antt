@@ -17,9 +17,10 @@ use Rattle.dataset.specs.Reading.{fault, read, sizeLimit}
 use Rattle.mac.specs.TagList.{tagsIn, badSize, ascendingAnswer, unbarredAnswer, listAnswer}
 use Rattle.mac.specs.Modes.{answerFrom13}
 use Rattle.mac.specs.Result.{Result, outputAfter}
-use Rattle.mac.specs.Inner.Extent.{Lies, elementsIn, wholeOf}
+use Rattle.dataset.specs.Place.{Lies}
+use Rattle.dataset.specs.Extent.{elementsIn, wholeOf}
 use Rattle.mac.specs.Inner.Calls.{wholeStream, Left, AnsweredFrom13, CallAnswered}
-use Rattle.mac.specs.declared.extent.Extent.{Extent}
+use Rattle.dataset.specs.declared.extent.Extent.{Extent}
 use Rattle.mac.specs.declared.modes.SignatureItem.{SignatureItem}
 
 -- ---- the tag list

@@ -19,17 +19,18 @@ use Rattle.dataset.proofs.Outcomes.{elements-next}
 use Rattle.dataset.proofs.Steps.{item-at}
 use Rattle.mac.specs.Selection.{firstItem}
 use Rattle.dataset.specs.Tags.{macIdNumber, dataElementsSigned}
-use Rattle.mac.specs.Inner.Extent.{Lies, elementsIn, itemsIn}
-use Rattle.mac.specs.Inner.Seek.{SoughtIn, PlaceLies}
+use Rattle.dataset.specs.Place.{Lies, SoughtIn}
+use Rattle.dataset.specs.Extent.{elementsIn, itemsIn}
+use Rattle.dataset.specs.Inner.Place.{PlaceLies}
 use Rattle.mac.specs.Inner.Selection.{hasKey, TestsKey, ItemFound, FoundItemIn}
-use Rattle.mac.specs.declared.extent.Extent.{Extent}
-use Rattle.mac.specs.declared.seek.Place.{Place}
-use Rattle.mac.specs.declared.seek.Sought.{Sought}
-use Rattle.mac.specs.declared.seek.Sought.the-variants as sought
+use Rattle.dataset.specs.declared.extent.Extent.{Extent}
+use Rattle.dataset.specs.declared.seek.Place.{Place}
+use Rattle.dataset.specs.declared.seek.Sought.{Sought}
+use Rattle.dataset.specs.declared.seek.Sought.the-variants as sought
 use Rattle.mac.specs.declared.selection.ItemKey.{ItemKey}
 use Rattle.mac.specs.declared.selection.FoundItem.{FoundItem}
 use Rattle.mac.specs.declared.selection.FoundItem.the-variants as found
-use Rattle.mac.proofs.Places.{IsSought, sought-past, sought-refused, placed-lies}
+use Rattle.dataset.proofs.Places.{IsSought, sought-past, sought-refused, placed-lies}
 
 -- the items of an extent from `at` on
 abbrev pub itemsFrom : List ℕ → Extent → (at : ℕ) → Reading Items

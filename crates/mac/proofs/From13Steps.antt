@@ -19,9 +19,10 @@ use Rattle.dataset.specs.Reading.{Reading, fault, read}
 use Rattle.mac.specs.TagList.{tagsIn, listAnswer}
 use Rattle.mac.specs.Modes.{tagsAnswer, badDigestLength, answerFrom13}
 use Rattle.mac.specs.Result.{Result, outputAfter}
-use Rattle.mac.specs.Inner.Extent.{Lies, elementsIn}
+use Rattle.dataset.specs.Place.{Lies}
+use Rattle.dataset.specs.Extent.{elementsIn}
 use Rattle.mac.specs.Inner.Calls.{wholeStream, walkAnswer, StreamLeaves, StreamWalk, ReadFrom13, AnsweredFrom13, AnsweredFrom10, Left}
-use Rattle.mac.specs.declared.extent.Extent.{Extent}
+use Rattle.dataset.specs.declared.extent.Extent.{Extent}
 use Rattle.mac.specs.declared.modes.SignatureItem.{SignatureItem}
 use Rattle.mac.proofs.From13Answers.{from13-accepted}
 use Rattle.mac.proofs.StreamWalkSteps.{fault-number}

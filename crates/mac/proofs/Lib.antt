@@ -26,6 +26,4 @@ pub mod SignatureSteps
 pub mod PlaceValues
 pub mod SelectionTests
 pub mod SelectSteps
-pub mod Places
-pub mod SeekSteps
 pub mod FindItemSteps

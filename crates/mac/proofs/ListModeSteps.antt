@@ -21,10 +21,10 @@ use Rattle.mac.specs.Stream.{listedStream}
 use Rattle.mac.specs.Modes.{answerFrom13, badDigestLength}
 use Rattle.mac.specs.Result.{Result, Streamed, CheckedAs}
 use Rattle.mac.specs.ListMode.{stream, answer, result, streamCall, checkCall}
-use Rattle.mac.specs.Inner.Extent.{elementsIn, wholeOf}
+use Rattle.dataset.specs.Extent.{elementsIn, wholeOf}
 use Rattle.mac.specs.Inner.Calls.{wholeStream, AnsweredFrom13, AnsweredFrom10, listCall, CallAnswered}
 use Rattle.mac.specs.Inner.Verdict.{CheckOf}
-use Rattle.mac.specs.declared.extent.Extent.{Extent}
+use Rattle.dataset.specs.declared.extent.Extent.{Extent}
 use Rattle.mac.specs.declared.modes.SignatureItem.the-variants as signatureItem
 use Rattle.mac.specs.declared.verdict.Checked.{Checked}
 use Rattle.mac.proofs.CallSteps.{call-refused, call-fault, call-read}

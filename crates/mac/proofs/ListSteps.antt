@@ -25,8 +25,9 @@ use Rattle.mac.specs.Modes.{elementAnswer, tagsAnswer}
 use Rattle.mac.specs.Inner.Keep.{keeps}
 use Rattle.mac.specs.Inner.Writer.{oneStream, oneWalked, Walk}
 use Rattle.mac.specs.Inner.Listed.{listedAnswer, ListedLeaves, ListWalk, nextListed, stoppedOf, mergedOf, endedOf}
-use Rattle.mac.specs.Inner.Extent.{Lies, elementsIn}
-use Rattle.mac.specs.declared.extent.Extent.{Extent}
+use Rattle.dataset.specs.Place.{Lies}
+use Rattle.dataset.specs.Extent.{elementsIn}
+use Rattle.dataset.specs.declared.extent.Extent.{Extent}
 use Rattle.mac.specs.declared.listed.Listed.{Listed}
 use Rattle.mac.specs.declared.keep.Keep.{Keep}
 use Rattle.mac.specs.declared.writer.OneWritten.{OneWritten}

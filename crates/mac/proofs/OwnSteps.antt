@@ -15,9 +15,9 @@ use Rattle.mac.specs.UN.{isUN, holdsUN}
 use Rattle.mac.specs.SignatureMode.{named, leftOut, own}
 use Rattle.mac.specs.Inner.Keep.{keeps}
 use Rattle.mac.specs.Inner.Writer.{oneStream, oneWalked, OneWalk, holdsNone}
-use Rattle.mac.specs.Inner.Extent.{Lies}
+use Rattle.dataset.specs.Place.{Lies}
 use Rattle.mac.specs.Inner.Own.{ownStream, ownKeep, OwnWalk}
-use Rattle.mac.specs.declared.extent.Extent.{Extent}
+use Rattle.dataset.specs.declared.extent.Extent.{Extent}
 use Rattle.mac.specs.declared.keep.Keep.{Keep}
 use Rattle.mac.specs.declared.keep.Keep.the-variants as keep
 use Rattle.mac.specs.declared.writer.Written.the-variants as written

@@ -16,19 +16,20 @@ use Rattle.dataset.specs.Tree.{Element, Elements}
 use Rattle.dataset.specs.Reading.{Reading, fault, read}
 use Rattle.dataset.specs.Lookup.{elementOf}
 use Rattle.mac.specs.Selection.{itemsOf, valueOf, itemWhere}
-use Rattle.mac.specs.Inner.Extent.{elementsIn, itemsIn, Lies}
-use Rattle.mac.specs.Inner.Seek.{Placed, PlaceLies, SoughtAs, SoughtIn, Located}
+use Rattle.dataset.specs.Extent.{elementsIn, itemsIn}
+use Rattle.dataset.specs.Place.{Lies, Placed, SoughtAs, SoughtIn}
+use Rattle.dataset.specs.Inner.Place.{PlaceLies, Located}
 use Rattle.mac.specs.Inner.Selection.{hasKey, FoundItemAs, FoundItemIn, FoundItemUnder}
-use Rattle.mac.specs.declared.extent.Extent.{Extent}
-use Rattle.mac.specs.declared.seek.Place.{Place}
-use Rattle.mac.specs.declared.seek.Place.the-variants as place
-use Rattle.mac.specs.declared.seek.Sought.{Sought}
-use Rattle.mac.specs.declared.seek.Sought.the-variants as sought
+use Rattle.dataset.specs.declared.extent.Extent.{Extent}
+use Rattle.dataset.specs.declared.seek.Place.{Place}
+use Rattle.dataset.specs.declared.seek.Place.the-variants as place
+use Rattle.dataset.specs.declared.seek.Sought.{Sought}
+use Rattle.dataset.specs.declared.seek.Sought.the-variants as sought
 use Rattle.mac.specs.declared.selection.ItemKey.{ItemKey}
 use Rattle.mac.specs.declared.selection.FoundItem.{FoundItem}
 use Rattle.mac.specs.declared.selection.FoundItem.the-variants as found
-use Rattle.mac.proofs.Places.{placed-lies}
-use Rattle.mac.proofs.seek.Place as enum
+use Rattle.dataset.proofs.Places.{placed-lies}
+use Rattle.dataset.proofs.seek.Place as enum
 
 -- cases that cannot be
 pub never : {A : Type 0} → _≡_ {A = ℕ} 0 1 → A

@@ -18,14 +18,15 @@ use Rattle.dataset.specs.Reading.{Reading, fault, read}
 use Rattle.dataset.specs.Lookup.{elementOf}
 use Rattle.mac.specs.Selection.{itemsOf, valueOf, itemWhere, macIdOf, signatureItem, parametersItem, badTransferSyntax, badAlgorithm, need, selected, parametersSelect, select}
 use Rattle.dataset.specs.Tags.{macIdNumber, macCalculationTransferSyntaxUid, macAlgorithm, dataElementsSigned, macParametersSequence, digitalSignaturesSequence}
-use Rattle.mac.specs.Inner.Extent.{elementsIn, Lies}
-use Rattle.mac.specs.Inner.Seek.{Placed, PlaceLies, SoughtAs, SoughtIn, Located}
+use Rattle.dataset.specs.Extent.{elementsIn}
+use Rattle.dataset.specs.Place.{Lies, Placed, SoughtAs, SoughtIn}
+use Rattle.dataset.specs.Inner.Place.{PlaceLies, Located}
 use Rattle.mac.specs.Inner.Selection.{hasKey, FoundItemAs, FoundItemUnder, BadSyntax, BadAlgorithm, ListOf, SelectOf, SelectedIn}
-use Rattle.mac.specs.declared.extent.Extent.{Extent}
-use Rattle.mac.specs.declared.seek.Place.{Place}
-use Rattle.mac.specs.declared.seek.Place.the-variants as place
-use Rattle.mac.specs.declared.seek.Sought.{Sought}
-use Rattle.mac.specs.declared.seek.Sought.the-variants as sought
+use Rattle.dataset.specs.declared.extent.Extent.{Extent}
+use Rattle.dataset.specs.declared.seek.Place.{Place}
+use Rattle.dataset.specs.declared.seek.Place.the-variants as place
+use Rattle.dataset.specs.declared.seek.Sought.{Sought}
+use Rattle.dataset.specs.declared.seek.Sought.the-variants as sought
 use Rattle.mac.specs.declared.selection.ItemKey.{ItemKey}
 use Rattle.mac.specs.declared.selection.ItemKey.the-variants as key
 use Rattle.mac.specs.declared.selection.FoundItem.{FoundItem}

@@ -17,10 +17,11 @@ use Rattle.dataset.specs.Tree.{Element}
 use Rattle.dataset.specs.Lookup.{elementOf}
 use Rattle.mac.specs.Selection.{valueOf, twoBytes, macIdOf, lessNul, implicitVrLittleEndian, explicitVrBigEndian, badTransferSyntax, SHA256, isTerm, badAlgorithm}
 use Rattle.dataset.specs.Tags.{macIdNumber}
-use Rattle.mac.specs.Inner.Seek.{Placed, PlaceLies}
+use Rattle.dataset.specs.Place.{Placed}
+use Rattle.dataset.specs.Inner.Place.{PlaceLies}
 use Rattle.mac.specs.Inner.Selection.{KeyLies, Tests, SameMacId, TestsKey, LessNul}
-use Rattle.mac.specs.declared.seek.Place.{Place}
-use Rattle.mac.specs.declared.seek.Place.the-variants as place
+use Rattle.dataset.specs.declared.seek.Place.{Place}
+use Rattle.dataset.specs.declared.seek.Place.the-variants as place
 use Rattle.mac.specs.declared.selection.ItemKey.{ItemKey}
 use Rattle.mac.specs.declared.selection.ItemKey.the-variants as key
 use Rattle.slices.proofs.Parts.{length-between, drop-one}

@@ -23,12 +23,13 @@ use Rattle.mac.specs.Result.{Result, Streamed, CheckedAs}
 use Rattle.mac.specs.Selection.{numberOf, refusal, selected, select}
 use Rattle.mac.specs.SignatureMode.{own, streamBy, answerBy, stream, answer, result, streamCall, checkCall}
 use Rattle.mac.specs.Selection as mode
-use Rattle.mac.specs.Inner.Extent.{Lies, elementsIn, wholeOf}
+use Rattle.dataset.specs.Place.{Lies}
+use Rattle.dataset.specs.Extent.{elementsIn, wholeOf}
 use Rattle.mac.specs.Inner.Own.{ownStream}
 use Rattle.mac.specs.Inner.Selection.{SelectionAs, SelectedIn}
 use Rattle.mac.specs.Inner.Calls.{ItemReads, wholeStream, AnsweredFrom13, AnsweredFrom10, signatureCall, CallAnswered}
 use Rattle.mac.specs.Inner.Verdict.{CheckOf}
-use Rattle.mac.specs.declared.extent.Extent.{Extent}
+use Rattle.dataset.specs.declared.extent.Extent.{Extent}
 use Rattle.mac.specs.declared.modes.SignatureItem.the-variants as signatureItem
 use Rattle.mac.specs.declared.selection.Selection.{Selection}
 use Rattle.mac.specs.declared.selection.Selection.the-variants as selection

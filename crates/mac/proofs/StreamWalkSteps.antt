@@ -20,12 +20,13 @@ use Rattle.dataset.proofs.Guarantees.{holds-read, ElementsIn, elements-read}
 use Rattle.mac.specs.TagList.{tagsIn}
 use Rattle.mac.specs.Stream.{listedStream}
 use Rattle.mac.specs.Modes.{tagsAnswer}
-use Rattle.mac.specs.Inner.Extent.{Lies, elementsIn}
+use Rattle.dataset.specs.Place.{Lies}
+use Rattle.dataset.specs.Extent.{elementsIn}
 use Rattle.mac.specs.Inner.Own.{ownStream}
 use Rattle.mac.specs.Inner.Writer.{holdsNone, walked, Leaves, Walk}
 use Rattle.mac.specs.Inner.Listed.{listedAnswer, ListedLeaves, ListWalk}
 use Rattle.mac.specs.Inner.Calls.{ItemReads, SignatureItemReads, signatureItemStream, wholeStream, walkAnswer, StreamLeaves, StreamWalk}
-use Rattle.mac.specs.declared.extent.Extent.{Extent}
+use Rattle.dataset.specs.declared.extent.Extent.{Extent}
 use Rattle.mac.specs.declared.modes.SignatureItem.{SignatureItem}
 use Rattle.mac.specs.declared.modes.SignatureItem.the-variants as signatureItem
 use Rattle.mac.specs.declared.writer.Written.{Written}

@@ -1,10 +1,8 @@
 -- For inner contracts, by the modules of src/; no part of what a reader has to believe.
-pub mod Extent
 pub mod Keep
 pub mod Writer
 pub mod Listed
 pub mod Own
-pub mod Seek
 pub mod Selection
 pub mod Calls
 pub mod Verdict

@@ -2,21 +2,18 @@
 //
 // list_mode, signature_mode  the calls
 // modes                      what both share: the list, 9 and 16, the two walks
-// selection, over seek       18 to 23
+// selection                  18 to 23
 // tag_list                   10, 11, 12
 // listed                     13, 14, 15: the merge of list and data set
 // own                        the signature item's own elements
 // writer                     the walk that reads, finds UN, measures and writes: over keep (which elements) and output (bytes into it)
 // verdict                    9; same or differs
-// extent                     where a data set or items lie
-mod extent;
 mod keep;
 pub mod list_mode;
 mod listed;
 mod modes;
 mod output;
 mod own;
-mod seek;
 mod selection;
 pub mod signature_mode;
 mod tag_list;

@@ -1,10 +1,10 @@
 // List mode: the stream from a list of tags alone, and the check of its digest.
-use crate::extent;
 use crate::modes;
 use crate::modes::SignatureItem;
 use crate::verdict;
 use crate::verdict::Checked;
 use answer::Answer;
+use dataset::extent;
 use dataset::reading;
 ghost use Rattle.mac.specs.Result.{Streamed, CheckedAs};
 ghost use Rattle.mac.specs.ListMode.{streamCall, checkCall, result};

@@ -1,16 +1,16 @@
 // The merge of a tag list with the elements of a data set: 13, 14, 15, and the stream of the listed elements.
-use crate::extent::Extent;
 use crate::keep::Keep;
 use crate::tag_list;
 use crate::writer;
 use crate::writer::OneWritten;
 use answer::Answer;
+use dataset::extent::Extent;
 ghost use mathlib.Core.Path.{_≡_};
 ghost use Prim.Native.Nat.{_*_, _/_, _≤_};
 ghost use lib.ListN.{length, drop};
 ghost use Rattle.answer.specs.Answer as Spec;
 ghost use Rattle.mac.specs.TagList.{tagsIn, ascendingAnswer};
-ghost use Rattle.mac.specs.Inner.Extent.{Lies};
+ghost use Rattle.dataset.specs.Place.{Lies};
 ghost use Rattle.mac.specs.Inner.Listed.{ListWalk, nextListed, stoppedOf, mergedOf, endedOf};
 
 // How far list and data set are merged: the index of the tag that is wanted next; and the first of 13, 14, 15, or the length of the

@@ -1,15 +1,15 @@
 // What both modes share: the tag list, the end of the order from 13 on, and the stream in the output.
-use crate::extent::Extent;
 use crate::listed;
 use crate::own;
 use crate::tag_list;
 use crate::writer::Written;
 use answer::Answer;
+use dataset::extent::Extent;
 ghost use mathlib.Core.Path.{_≡_};
 ghost use lib.ListN.{length};
 ghost use Rattle.answer.specs.Answer as Spec;
 ghost use Rattle.mac.specs.TagList.{tagsIn, ascendingAnswer};
-ghost use Rattle.mac.specs.Inner.Extent.{Lies};
+ghost use Rattle.dataset.specs.Place.{Lies};
 ghost use Rattle.mac.specs.Inner.Calls.{SignatureItemReads, StreamWalk, AnsweredFrom13, AnsweredFrom10};
 
 // The signature item, whose own elements follow the listed ones; list mode has none.

@@ -1,10 +1,10 @@
 // The signature item's own elements, which follow the listed ones.
-use crate::extent::Extent;
 use crate::keep::Keep;
 use crate::tag_list;
 use crate::writer;
 use crate::writer::OneWritten;
 use crate::writer::Written;
+use dataset::extent::Extent;
 use dataset::tags;
 ghost use mathlib.Core.Path.{_≡_};
 ghost use mathlib.Core.Bool.{_||_};
@@ -12,7 +12,7 @@ ghost use Prim.Native.Nat.{_+_, _≤_};
 ghost use lib.ListN.{length};
 ghost use Rattle.mac.specs.TagList.{barred};
 ghost use Rattle.mac.specs.SignatureMode.{named};
-ghost use Rattle.mac.specs.Inner.Extent.{Lies};
+ghost use Rattle.dataset.specs.Place.{Lies};
 ghost use Rattle.mac.specs.Inner.Own.{OwnWalk, ownKeep};
 
 // Whether this is one of the four tags that the signature item leaves out by name.

@@ -1,12 +1,12 @@
 // What signature mode selects, 18 to 23: the signature item, and the list of its MAC parameters item.
-use crate::extent::Extent;
-use crate::seek;
-use crate::seek::Place;
-use crate::seek::Sought;
 use answer::Answer;
+use dataset::extent::Extent;
 use dataset::header;
 use dataset::header::ItemHeader;
 use dataset::reading;
+use dataset::seek;
+use dataset::seek::Place;
+use dataset::seek::Sought;
 use dataset::tags;
 use dataset::vr;
 ghost use mathlib.Core.Path.{_≡_};
@@ -18,8 +18,9 @@ ghost use Rattle.dataset.specs.Vr.{US};
 ghost use mathlib.Core.Option.{some};
 ghost use Rattle.answer.specs.Answer as Spec;
 ghost use Rattle.mac.specs.Selection.{badTransferSyntax, SHA256, isTerm};
-ghost use Rattle.mac.specs.Inner.Extent.{Lies, elementsIn, itemsIn};
-ghost use Rattle.mac.specs.Inner.Seek.{PlaceLies, Located};
+ghost use Rattle.dataset.specs.Place.{Lies};
+ghost use Rattle.dataset.specs.Extent.{elementsIn, itemsIn};
+ghost use Rattle.dataset.specs.Inner.Place.{PlaceLies, Located};
 ghost use Rattle.mac.specs.Inner.Selection.{SameMacId, KeyLies, TestsKey, FoundItemIn, FoundItemUnder, LessNul, BadSyntax, BadAlgorithm, ListOf, SelectOf, SelectedIn};
 ghost use Rattle.mac.specs.declared.selection.Selection.the-variants as selection;
 

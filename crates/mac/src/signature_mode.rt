@@ -1,5 +1,4 @@
 // Signature mode: the stream of a signature in the data set, and the check of its digest.
-use crate::extent;
 use crate::modes;
 use crate::modes::SignatureItem;
 use crate::selection;
@@ -7,6 +6,7 @@ use crate::selection::Selection;
 use crate::verdict;
 use crate::verdict::Checked;
 use answer::Answer;
+use dataset::extent;
 use dataset::reading;
 ghost use mathlib.Core.Path.{_≡_};
 ghost use Rattle.mac.specs.Result.{Streamed, CheckedAs};

@@ -18,9 +18,10 @@ use Rattle.mac.specs.Modes.{tagsAnswer, badDigestLength, answerFrom13}
 use Rattle.mac.specs.Result.{Result, outputAfter}
 use Rattle.mac.specs.ListMode as listMode
 use Rattle.mac.specs.SignatureMode as signatureMode
-use Rattle.mac.specs.Inner.Extent.{Lies, elementsIn}
+use Rattle.dataset.specs.Place.{Lies}
+use Rattle.dataset.specs.Extent.{elementsIn}
 use Rattle.mac.specs.Inner.Own.{ownStream}
-use Rattle.mac.specs.declared.extent.Extent.{Extent}
+use Rattle.dataset.specs.declared.extent.Extent.{Extent}
 use Rattle.mac.specs.declared.modes.SignatureItem.{SignatureItem}
 use Rattle.mac.specs.declared.modes.SignatureItem.the-variants as signatureItem
 use Rattle.mac.specs.declared.signature_mode.Signature.{Signature}

@@ -16,8 +16,8 @@ use Rattle.mac.specs.TagList.{tagsIn}
 use Rattle.mac.specs.Stream.{listedStream}
 use Rattle.mac.specs.UN.{isUN}
 use Rattle.mac.specs.Modes.{tagsAnswer}
-use Rattle.mac.specs.Inner.Extent.{elementsIn}
-use Rattle.mac.specs.declared.extent.Extent.{Extent}
+use Rattle.dataset.specs.Extent.{elementsIn}
+use Rattle.dataset.specs.declared.extent.Extent.{Extent}
 use Rattle.mac.specs.declared.listed.Listed.{Listed}
 use Rattle.mac.specs.declared.keep.Keep.{Keep}
 use Rattle.mac.specs.declared.keep.Keep.the-variants as keep

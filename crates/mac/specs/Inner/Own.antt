@@ -5,9 +5,9 @@ use mathlib.Core.Bool.{_||_}
 use mathlib.Core.List.{List}
 use Rattle.slices.specs.If.{if_then_else_}
 use Rattle.dataset.specs.Tree.{Elements}
-use Rattle.mac.specs.Inner.Extent.{elementsIn}
+use Rattle.dataset.specs.Extent.{elementsIn}
 use Rattle.mac.specs.Inner.Writer.{walked, holdsNone, Walk}
-use Rattle.mac.specs.declared.extent.Extent.{Extent}
+use Rattle.dataset.specs.declared.extent.Extent.{Extent}
 use Rattle.mac.specs.declared.writer.Written.{Written}
 use Rattle.mac.specs.TagList.{barred}
 use Rattle.mac.specs.Stream.{elementsStream}

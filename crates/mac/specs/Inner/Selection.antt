@@ -17,10 +17,10 @@ use Rattle.dataset.specs.Lookup.{elementOf}
 use Rattle.mac.specs.Selection.{itemsOf, valueOf, firstItem, itemWhere, twoBytes, macIdOf, isId, lessNul, badTransferSyntax, badAlgorithm, parametersSelect, select, refusal, selected}
 use Rattle.dataset.specs.Tags.{macIdNumber, dataElementsSigned, macParametersSequence, digitalSignaturesSequence}
 use Rattle.mac.specs.Selection as mode
-use Rattle.mac.specs.Inner.Extent.{Lies, elementsIn}
-use Rattle.mac.specs.Inner.Seek.{Placed}
-use Rattle.mac.specs.declared.extent.Extent.{Extent}
-use Rattle.mac.specs.declared.seek.Place.{Place}
+use Rattle.dataset.specs.Place.{Lies, Placed}
+use Rattle.dataset.specs.Extent.{elementsIn}
+use Rattle.dataset.specs.declared.extent.Extent.{Extent}
+use Rattle.dataset.specs.declared.seek.Place.{Place}
 use Rattle.mac.specs.declared.selection.ItemKey.{ItemKey}
 use Rattle.mac.specs.declared.selection.ItemKey.the-variants as key
 use Rattle.mac.specs.declared.selection.FoundItem.{FoundItem}

@@ -1,4 +1,4 @@
--- What the arms of `place_by` and `place_on` give, and what one turn of the loop of `seek` does, with the facts of the place as premises.
+-- What the arms of `or_here` give, what one turn of the loop of `seek_in` does, and what `seek` refuses, with the facts of the place as premises.
 -- Assumes nothing.
 use Prim.Native.Nat.{ℕ, _+_, _-_, _≤_, _<_}
 use mathlib.Core.Path.{_≡_, refl, sym, ap, _∙_}
@@ -8,51 +8,43 @@ use mathlib.Core.Option.{Option, some}
 use mathlib.Core.Option as Opt
 use native.Mathlib.Omega.{arith}
 use lib.Dec.{eqb}
+use lib.ListN.{length}
 use borrow.Author.Tests.{eq-eqb, ne-eqb}
 use Rattle.answer.specs.declared.Answer.{Answer}
 use Rattle.slices.specs.If.{if_then_else_}
 use Rattle.dataset.specs.Tree.{Element, Elements, tagOf}
 use Rattle.dataset.specs.Reading.{Reading, fault, read, _>>=_, One, ended, element, explicit, byOne, handedOn, oneCase}
 use Rattle.dataset.specs.Lookup.{elementOf}
-use Rattle.dataset.specs.Header.{elementCase}
-use Rattle.dataset.specs.declared.header.ElementHeader.{ElementHeader}
-use Rattle.dataset.specs.declared.header.ElementHeader.the-variants as header
+use Rattle.dataset.specs.Header.{faultAt, outside}
+use Rattle.dataset.proofs.Bounds.{inside-of}
+use Rattle.dataset.proofs.Outcomes.{outside-refused, IsElement, is-one-fault, is-one-end}
 use Rattle.dataset.specs.declared.reading.OneOutcome.{OneOutcome}
 use Rattle.dataset.specs.declared.reading.OneOutcome.the-variants as one
 use Rattle.dataset.proofs.Bounded.{explicit-bounded}
 use Rattle.dataset.proofs.Unfolding.{elements-are}
-use Rattle.dataset.proofs.Outcomes.{IsElement, is-one-fault, is-one-end}
 use Rattle.dataset.proofs.Steps.{answered, one-found, one-past}
-use Rattle.mac.specs.Inner.Extent.{Lies, elementsIn}
-use Rattle.mac.specs.Inner.Seek.{isThere, placeBy, placeOn, Placed, SoughtIn}
-use Rattle.mac.specs.declared.extent.Extent.{Extent}
-use Rattle.mac.specs.declared.seek.Place.{Place}
-use Rattle.mac.specs.declared.seek.Place.the-variants as place
-use Rattle.mac.specs.declared.seek.Sought.the-variants as sought
-use Rattle.mac.proofs.Places.{headerAt, oneFrom, elementsFrom, place-at, placed-there}
+use Rattle.dataset.specs.Extent.{elementsIn}
+use Rattle.dataset.specs.Place.{Lies, ElementPlaced, Placed, SoughtIn}
+use Rattle.dataset.specs.Inner.Place.{isThere, placeBy, orHere}
+use Rattle.dataset.specs.declared.extent.Extent.{Extent}
+use Rattle.dataset.specs.declared.seek.Place.{Place}
+use Rattle.dataset.specs.declared.seek.Place.the-variants as place
+use Rattle.dataset.specs.declared.seek.Sought.the-variants as sought
+use Rattle.dataset.proofs.Places.{oneFrom, elementsFrom, placed-at, placed-there}
 
--- ---- `place_by`
-pub by-value : (left tag vr start end : ℕ) (h : ElementHeader) → h ≡ header.Value tag vr start end → place.Value vr start end ≡ placeBy left (elementCase h)
-by-value left tag vr start end h e = rw e
+-- ---- `or_here`
+module _ (p here-at : Place) (tag here : ℕ) where
+  pub here-other : (here ≡ tag → ⊥) → p ≡ orHere p tag here here-at
+  unfolding orHere if_then_else_
+  here-other h = rw (ne-eqb here tag h)
 
-pub by-sequence : (left tag start end : ℕ) (delimited : Bool) (h : ElementHeader) → h ≡ header.Sequence tag start end delimited
-    → place.Items (record { delimited = delimited; left = left; stop = end; from = start }) ≡ placeBy left (elementCase h)
-by-sequence left tag start end delimited h e = rw e
+  pub here-there : (b : Bool) → here ≡ tag → b ≡ isThere p → b ≡ true → p ≡ orHere p tag here here-at
+  unfolding orHere if_then_else_
+  here-there b h e t = rw (eq-eqb here tag h, sym e ∙ t)
 
--- ---- `place_on`
-module _ (d : List ℕ) (x : Extent) (at least : ℕ) (p : Place) (tag here : ℕ) where
-  pub on-other : (here ≡ tag → ⊥) → p ≡ placeOn d x at least p tag here
-  unfolding placeOn if_then_else_
-  on-other h = rw (ne-eqb here tag h)
-
-  pub on-there : (b : Bool) → here ≡ tag → b ≡ isThere p → b ≡ true → p ≡ placeOn d x at least p tag here
-  unfolding placeOn if_then_else_
-  on-there b h e t = rw (eq-eqb here tag h, sym e ∙ t)
-
-  pub on-first : (b : Bool) (h : ElementHeader) (z : Place) → here ≡ tag → b ≡ isThere p → b ≡ false
-      → elementCase h ≡ headerAt d x at least → z ≡ placeBy (x .left) (elementCase h) → z ≡ placeOn d x at least p tag here
-  unfolding placeOn if_then_else_
-  on-first b h z w e t q k = rw (eq-eqb here tag w, sym e ∙ t) (k ∙ rw q)
+  pub here-first : (b : Bool) → here ≡ tag → b ≡ isThere p → b ≡ false → here-at ≡ orHere p tag here here-at
+  unfolding orHere if_then_else_
+  here-first b h e t = rw (eq-eqb here tag h, sym e ∙ t)
 
 -- ---- what was found of a tag before, and what is found of it in what is left
 unfoldable pub orLater : Option Element → Option Element → Option Element
@@ -107,21 +99,20 @@ seek-start d x tag tag′ l = record { inside = l .order; first = none-yet tag; 
     none-yet : (t : ℕ) → TagLoop d x t (x .from) 0 place.Absent
     none-yet t = record { found = Opt.none; placed = refl; same = refl }
 
-module _ (d : List ℕ) (x : Extent) (at least : ℕ) (l : Lies d x) (e : Element) (next : ℕ)
-    (is : oneFrom d x at least ≡ read (element e) next) (tag : ℕ) where
-  placed-on : (f : Option Element) (p : Place) → Placed d f p → Placed d (orLater f (hit tag e)) (placeOn d x at least p tag (tagOf e))
-  unfolding orLater hit placeOn if_then_else_
+module _ (d : List ℕ) (x : Extent) (at least : ℕ) (e : Element) (next : ℕ)
+    (is : oneFrom d x at least ≡ read (element e) next) (here-at : Place) (there : ElementPlaced d e here-at) (tag : ℕ) where
+  placed-on : (f : Option Element) (p : Place) → Placed d f p → Placed d (orLater f (hit tag e)) (orHere p tag (tagOf e) here-at)
+  unfolding orLater hit orHere if_then_else_
   placed-on f p h = go (eqb (tagOf e) tag) f h
     where
       go : (b : Bool) (f : Option Element) → Placed d f p
-          → Placed d (orLater f (if b then some e else Opt.none))
-          (if not b then p else if isThere p then p else placeBy (x .left) (headerAt d x at least))
+          → Placed d (orLater f (if b then some e else Opt.none)) (if not b then p else if isThere p then p else here-at)
       go false Opt.none h = h
       go false (some g) h = h
       go true (some g) h = rw (placed-there d g p h) h
-      go true Opt.none h = rw h (place-at d x at least (l .inside) e next is)
+      go true Opt.none h = rw h there
 
-  tag-again : (p : Place) → at ≤ x .stop → TagLoop d x tag at least p → TagLoop d x tag next (tagOf e + 1) (placeOn d x at least p tag (tagOf e))
+  tag-again : (p : Place) → at ≤ x .stop → TagLoop d x tag at least p → TagLoop d x tag next (tagOf e + 1) (orHere p tag (tagOf e) here-at)
   unfolding byOne
   tag-again p h i = record {
     found = orLater (i .found) (hit tag e);
@@ -177,12 +168,24 @@ module _ (d : List ℕ) (x : Extent) (at least : ℕ) (r : OneOutcome) (e : oneC
     pub seek-less : x .stop - next < x .stop - at
     seek-less = let k = past in omega (arith, k)
 
-    pub seek-again : (p′ q′ : Place) → Lies d x → p′ ≡ placeOn d x at least p tag here → q′ ≡ placeOn d x at least q tag′ here
-        → SeekLoop d x tag tag′ next (here + 1) p′ q′
-    seek-again p′ q′ l y y′ =
+    pub seek-again : (here-at p′ q′ : Place) → Lies d x → here-at ≡ placeBy x vr start end next → p′ ≡ orHere p tag here here-at
+        → q′ ≡ orHere q tag′ here here-at → SeekLoop d x tag tag′ next (here + 1) p′ q′
+    seek-again here-at p′ q′ l w′ y y′ =
         let k = it in
+        let there = placed-at d x at least (l .inside) (k .what) vr start end next here-at (k .is) (k .letters) (k .starts) (k .ends) w′ in
         rw (y, y′, ← k .tagged) record {
           inside = past .1;
-          first = tag-again d x at least l (k .what) next (k .is) tag p (i .inside) (i .first);
-          second = tag-again d x at least l (k .what) next (k .is) tag′ q (i .inside) (i .second);
+          first = tag-again d x at least (k .what) next (k .is) here-at there tag p (i .inside) (i .first);
+          second = tag-again d x at least (k .what) next (k .is) here-at there tag′ q (i .inside) (i .second);
         }
+
+-- ---- an extent that does not lie inside the data is refused, before anything is read
+module _ (d : List ℕ) (x : Extent) (b : Bool) (e : b ≡ outside d (x .stop) (x .from)) where
+  pub seek-outside : (f : Answer) (tag tag′ : ℕ) → b ≡ true → f ≡ faultAt 2 (x .from) → SoughtIn d tag tag′ (elementsIn d x) (sought.Refused f)
+  seek-outside f tag tag′ t q = rw (outside-refused d (x .delimited) (x .left) (x .stop) (x .from) 0 (sym e ∙ t), q) refl
+
+  pub seek-order : b ≡ false → x .from ≤ x .stop
+  seek-order t = inside-of d (x .stop) (x .from) (sym e ∙ t) .1
+
+  pub seek-inside : b ≡ false → x .stop ≤ length d
+  seek-inside t = inside-of d (x .stop) (x .from) (sym e ∙ t) .0

@@ -1,9 +1,9 @@
--- `seek` meets its contract: the invariant is `SeekLoop`, and each place is a law of SeekSteps. Assumes nothing.
-use Rattle.mac.proofs.SeekSteps as steps
+-- `seek_in` meets its contract: the invariant is `SeekLoop`, and each place is a law of SeekSteps. Assumes nothing.
+use Rattle.dataset.proofs.SeekSteps as steps
 use borrow.Author.Needs.{needs}
 use Prim.Native.Nat.{_-_}
-use Rattle.mac.proofs.seek.seek.Statement.{statement}
-use Rattle.mac.proofs.seek.seek.Tie as tie
+use Rattle.dataset.proofs.seek.seek_in.Statement.{statement}
+use Rattle.dataset.proofs.seek.seek_in.Tie as tie
 
 abbrev Inv-loop : tie.InvT-loop
 Inv-loop d x first second at₀ least₀ one₀ other₀ at least one other = steps.SeekLoop d x first second at least one other
@@ -32,11 +32,14 @@ returns-2 c = search steps.seek-end
 enum-known-tag : tie.Need-enum-known-tag Inv-loop μ-loop
 enum-known-tag c = search needs
 
-place-on-requires : tie.Need-place-on-requires Inv-loop μ-loop
-place-on-requires c κs = search needs
+place-by-requires : tie.Need-place-by-requires Inv-loop μ-loop
+place-by-requires c κs = search needs
 
-place-on-requires-2 : tie.Need-place-on-requires-2 Inv-loop μ-loop
-place-on-requires-2 c κs = search needs
+or-here-requires : tie.Need-or-here-requires Inv-loop μ-loop
+or-here-requires c κs = search needs
+
+or-here-requires-2 : tie.Need-or-here-requires-2 Inv-loop μ-loop
+or-here-requires-2 c κs = search needs
 
 cast-least : tie.Need-cast-least Inv-loop μ-loop
 cast-least c = search needs
@@ -50,8 +53,8 @@ loop-less c = search steps.seek-less
 loop-again : tie.Need-loop-again Inv-loop μ-loop
 loop-again c = search steps.seek-again
 
-pub seek-spec : {M : Type 1} → statement M
-seek-spec =
+pub seek-in-spec : {M : Type 1} → statement M
+seek-in-spec =
     tie.close
     (tie.spec
     Inv-loop
@@ -63,8 +66,9 @@ seek-spec =
     enum-known-next
     returns-2
     enum-known-tag
-    place-on-requires
-    place-on-requires-2
+    place-by-requires
+    or-here-requires
+    or-here-requires-2
     cast-least
     add-least
     loop-less

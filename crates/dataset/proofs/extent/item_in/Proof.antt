@@ -1,0 +1,42 @@
+-- `item_in` meets its contract: each place by its law in ExtentSteps. Assumes nothing.
+use Rattle.dataset.proofs.ExtentSteps as steps
+use borrow.Author.Needs.{needs}
+use Rattle.dataset.proofs.extent.item_in.Statement.{statement}
+use Rattle.dataset.proofs.extent.item_in.Tie as tie
+
+item-header-requires : tie.Need-item-header-requires
+item-header-requires c κs = search needs
+
+enum-known-fault : tie.Need-enum-known-fault
+enum-known-fault c = search needs
+
+enum-known-next : tie.Need-enum-known-next
+enum-known-next c = search needs
+
+enum-known-start : tie.Need-enum-known-start
+enum-known-start c = search needs
+
+deeper-requires : tie.Need-deeper-requires
+deeper-requires c κs = search needs
+
+returns : tie.Need-returns
+returns c = search steps.item-refused
+
+returns-2 : tie.Need-returns-2
+returns-2 c = search steps.item-ends
+
+returns-3 : tie.Need-returns-3
+returns-3 c = search steps.item-lies
+
+pub item-in-spec : {M : Type 1} → statement M
+item-in-spec =
+    tie.close
+    (tie.spec
+    item-header-requires
+    enum-known-fault
+    enum-known-next
+    enum-known-start
+    deeper-requires
+    returns
+    returns-2
+    returns-3)

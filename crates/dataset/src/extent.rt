@@ -1,0 +1,61 @@
+// Where a data set, or the items of a sequence, lie; and the extent of one item.
+use crate::header;
+use crate::header::ItemHeader;
+use crate::reading;
+use answer::Answer;
+ghost use mathlib.Core.Path.{_≡_};
+ghost use Rattle.dataset.specs.Extent.{wholeOf, itemIn, itemInCase};
+
+// From `from` up to `stop`, or to a delimiter before it; `left` levels of sequences may follow.
+pub struct Extent {
+    pub delimited: bool,
+    pub left: u32,
+    pub stop: usize,
+    pub from: usize,
+}
+
+// What stands in an item's place.
+pub enum ItemIn {
+    // the first fault
+    Refused(Answer),
+    // the items end here; what follows them is at this offset
+    End(usize),
+    // an item, by the extent of its data set
+    Item(Extent),
+}
+
+// A whole data set of `size` bytes.
+pub fn whole(size: usize) -> Extent
+    ensures { λ r. ⌜ r ≡ wholeOf size ⌝ }
+{
+    Extent {
+        delimited: false,
+        left: reading::LEVELS,
+        stop: size,
+        from: 0,
+    }
+}
+
+// What stands at `at` in an item's place, among items that lie in x.
+pub fn item_in(d: &[u8], x: Extent, at: usize) -> ItemIn
+    ensures { λ r. ⌜ itemInCase r ≡ itemIn (now (d .entry)) x at ⌝ }
+{
+    match header::item_header(d, true, x.delimited, x.stop, at) {
+        ItemHeader::Refused(fault) => ItemIn::Refused(fault),
+        ItemHeader::End(next) => ItemIn::End(next),
+        ItemHeader::Item {
+            start,
+            end,
+            delimited,
+        } => {
+            let left = reading::deeper(x.left);
+            let inside = Extent {
+                delimited,
+                left,
+                stop: end,
+                from: start,
+            };
+            ItemIn::Item(inside)
+        }
+    }
+}
