@@ -16,6 +16,7 @@ pub mod Filled
 pub mod FirstFault
 pub mod LookupSteps
 pub mod ExtentSteps
+pub mod ItemsFrom
 pub mod Places
 pub mod SeekSteps
 pub mod Theorems

@@ -1,9 +1,8 @@
 // What signature mode selects, 18 to 23: the signature item, and the list of its MAC parameters item.
 use answer::Answer;
+use dataset::extent;
 use dataset::extent::Extent;
-use dataset::header;
-use dataset::header::ItemHeader;
-use dataset::reading;
+use dataset::extent::ItemIn;
 use dataset::seek;
 use dataset::seek::Place;
 use dataset::seek::Sought;
@@ -96,20 +95,10 @@ fn find_item(d: &[u8], x: Extent, key: ItemKey) -> FoundItem
     let mut at = x.from;
     let mut index: u64 = 0;
     loop {
-        match header::item_header(d, true, x.delimited, x.stop, at) {
-            ItemHeader::Refused(_) => return FoundItem::Absent,
-            ItemHeader::End(_) => return FoundItem::Absent,
-            ItemHeader::Item {
-                start,
-                end,
-                delimited,
-            } => {
-                let inside = Extent {
-                    delimited,
-                    left: reading::deeper(x.left),
-                    stop: end,
-                    from: start,
-                };
+        match extent::item_in(d, x, at) {
+            ItemIn::Refused(_) => return FoundItem::Absent,
+            ItemIn::End(_) => return FoundItem::Absent,
+            ItemIn::Item(inside) => {
                 match seek::seek(d, inside, tags::MAC_ID_NUMBER, tags::DATA_ELEMENTS_SIGNED) {
                     Sought::Refused(_) => return FoundItem::Absent,
                     Sought::Past {

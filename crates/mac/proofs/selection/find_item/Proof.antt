@@ -14,8 +14,8 @@ abbrev μ-loop : tie.MeasureT-loop
 loop-holds : tie.Need-loop-holds Inv-loop μ-loop
 loop-holds c = search steps.find-item-start
 
-item-header-requires : tie.Need-item-header-requires Inv-loop μ-loop
-item-header-requires c κs = search needs
+item-in-requires : tie.Need-item-in-requires Inv-loop μ-loop
+item-in-requires c κs = search needs
 
 enum-told : tie.Need-enum-told Inv-loop μ-loop
 enum-told c = search needs
@@ -29,14 +29,11 @@ enum-told-2 c = search needs
 returns-2 : tie.Need-returns-2 Inv-loop μ-loop
 returns-2 c = search steps.find-item-end
 
-enum-known-start : tie.Need-enum-known-start Inv-loop μ-loop
-enum-known-start c = search needs
-
-deeper-requires : tie.Need-deeper-requires Inv-loop μ-loop
-deeper-requires c κs = search needs
+enum-known-inside : tie.Need-enum-known-inside Inv-loop μ-loop
+enum-known-inside c = search needs
 
 seek-requires : tie.Need-seek-requires Inv-loop μ-loop
-seek-requires c κs = search steps.item-lies
+seek-requires c κs = search needs
 
 enum-told-3 : tie.Need-enum-told-3 Inv-loop μ-loop
 enum-told-3 c = search needs
@@ -69,13 +66,12 @@ find-item-spec =
     Inv-loop
     μ-loop
     loop-holds
-    item-header-requires
+    item-in-requires
     enum-told
     returns
     enum-told-2
     returns-2
-    enum-known-start
-    deeper-requires
+    enum-known-inside
     seek-requires
     enum-told-3
     returns-3
