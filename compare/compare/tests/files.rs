@@ -23,7 +23,7 @@ fn files(names: &[&str]) -> (i32, Vec<String>) {
     (ran.status.code().unwrap(), lines)
 }
 
-/// What README's "From C" takes from it: the transfer syntax, where the data set
+/// What it says of a signed file: the transfer syntax, where the data set
 /// starts, and the digest of the signature's stream.
 #[test]
 fn the_signed_sample() {
