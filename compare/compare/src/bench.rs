@@ -4,7 +4,7 @@
 use crate::arguments::{Arguments, Stop};
 use crate::chart::chart;
 use crate::plain_sha256;
-use eddyplume::{Checked, Verdict};
+use eddyplume::{written, Answer, Verdict};
 use independent::reading::{Tag, MOST_BYTES};
 use independent::{list_mode, lookup, sha256::sha256, signature_mode};
 use inputs::workloads::{workloads, Workload, UID};
@@ -95,10 +95,11 @@ const SIGNED_LIST_CHECK: &str = "list check, with signature";
 const SIGNATURE_CHECK: &str = "signature check";
 
 fn reading(Workload { data, .. }: &Workload) -> Times {
-    assert_eq!(eddyplume::lookup(data, ABSENT).answer.number, 0);
+    let ours = || written(|(answer, part)| eddyplume::lookup(data, ABSENT, answer, part));
+    assert!(ours().0.is_accepted());
     Times {
         bytes: data.len(),
-        ours: best(|| eddyplume::lookup(data, ABSENT)),
+        ours: best(ours),
         independent: best(|| lookup::lookup(data, Tag(ABSENT))),
         plain_c: None,
     }
@@ -106,10 +107,11 @@ fn reading(Workload { data, .. }: &Workload) -> Times {
 
 fn list_stream(Workload { data, list, .. }: &Workload) -> Times {
     let mut out = vec![0; data.len()];
-    assert_eq!(eddyplume::list_stream(list, data, &mut out).number, 0);
+    let mut ours = || written(|answer| eddyplume::list_stream(list, data, &mut out, answer));
+    assert!(ours().is_accepted());
     Times {
         bytes: data.len(),
-        ours: best(|| eddyplume::list_stream(list, data, &mut out)),
+        ours: best(ours),
         independent: best(|| list_mode::stream(data, list, data.len())),
         plain_c: None,
     }
@@ -118,10 +120,15 @@ fn list_stream(Workload { data, list, .. }: &Workload) -> Times {
 fn list_check(Workload { list, .. }: &Workload, data: &[u8]) -> Times {
     let stream = list_mode::stream(data, list, data.len()).stream.unwrap_or_default();
     let (digest, mut work) = (plain_sha256::sha256(&stream), vec![0; data.len()]);
-    accepted(eddyplume::list_check(list, data, &digest, &mut work));
+    let mut ours = || {
+        written(|(answer, verdict)| {
+            eddyplume::list_check(list, data, &digest, &mut work, answer, verdict)
+        })
+    };
+    assert_same(ours());
     Times {
         bytes: data.len(),
-        ours: best(|| eddyplume::list_check(list, data, &digest, &mut work)),
+        ours: best(ours),
         independent: best(|| list_mode::check(data, list, &digest, data.len())),
         plain_c: Some(best(|| plain_sha256::sha256(&stream))),
     }
@@ -130,10 +137,15 @@ fn list_check(Workload { list, .. }: &Workload, data: &[u8]) -> Times {
 fn signature_check(Workload { signed_data: data, .. }: &Workload) -> Times {
     let stream = signature_mode::stream(data, UID, None, data.len()).stream.unwrap_or_default();
     let (digest, mut work) = (plain_sha256::sha256(&stream), vec![0; data.len()]);
-    accepted(eddyplume::signature_check(UID, None, data, &digest, &mut work));
+    let mut ours = || {
+        written(|(answer, verdict)| {
+            eddyplume::signature_check(UID, None, data, &digest, &mut work, answer, verdict)
+        })
+    };
+    assert_same(ours());
     Times {
         bytes: data.len(),
-        ours: best(|| eddyplume::signature_check(UID, None, data, &digest, &mut work)),
+        ours: best(ours),
         independent: best(|| signature_mode::check(data, UID, None, &digest, data.len())),
         plain_c: Some(best(|| plain_sha256::sha256(&stream))),
     }
@@ -141,17 +153,18 @@ fn signature_check(Workload { signed_data: data, .. }: &Workload) -> Times {
 
 fn digest(length: usize) -> Times {
     let message: Vec<u8> = (0..length).map(|at| (at % 251) as u8).collect();
-    assert_eq!(eddyplume::sha256(&message).1, Some(plain_sha256::sha256(&message)));
+    let ours = || written(|(digest, answer)| eddyplume::sha256(&message, digest, answer));
+    assert_eq!(ours(), (plain_sha256::sha256(&message), Answer::accepted(0)));
     Times {
         bytes: length,
-        ours: best(|| eddyplume::sha256(&message)),
+        ours: best(ours),
         independent: best(|| sha256(&message)),
         plain_c: Some(best(|| plain_sha256::sha256(&message))),
     }
 }
 
-fn accepted(checked: Checked) {
-    assert_eq!((checked.answer.number, checked.verdict), (0, Verdict::Same));
+fn assert_same((answer, verdict): (Answer, [u8; 1])) {
+    assert_eq!((answer.number, verdict), (0, [Verdict::Same as u8]));
 }
 
 /// The shortest of the runs, in milliseconds.

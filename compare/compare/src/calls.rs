@@ -2,13 +2,12 @@
 
 use crate::differences::{Call, Differences};
 use crate::digest_calls::{call_digest, call_feed, call_finish};
-use crate::guarded::{any_bytes, any_numbers};
+use crate::guarded::{any_answer, any_bytes, any_numbers};
 use crate::tally::{Function, Outcome};
-use eddyplume::lent;
 use expect::case::{Case, Expected};
 use expect::lines::expected_digest;
 use independent::reading::Tag;
-use independent::{list_mode, lookup, signature_mode, CheckAnswer, StreamAnswer, Verdict};
+use independent::{list_mode, lookup, signature_mode, Answer, Checked, Streamed, Verdict};
 use inputs::random::Random;
 
 /// The calls that a case stands for. What lies in the lent buffers before is
@@ -35,17 +34,17 @@ pub fn calls(case: &Case, random: &mut Random) -> Vec<Call> {
 }
 
 fn call_lookup(data: &[u8], tag: Tag, random: &mut Random) -> Call {
-    let (mut answer, mut part) = (any_numbers(3, random), any_numbers(3, random));
-    lent::lookup(data, tag.0, answer.array(), part.array());
+    let (mut answer, mut part) = (any_answer(random), any_numbers(3, random));
+    eddyplume::lookup(data, tag.0, answer.cell(), part.array());
     let wanted = lookup::lookup(data, tag);
-    let wanted_part = [wanted.stands.into(), wanted.offset as u64, wanted.length as u64];
+    let wanted_part = [wanted.stands.into(), wanted.offset as u64, wanted.value.len() as u64];
     let mut differences = Differences::default();
-    differences.answer(&answer, [wanted.number.into(), wanted.position as u64, 0]);
+    differences.answer(&answer, wanted.answer);
     let same_part = part.now() == wanted_part;
     differences.hold(same_part, || format!("part {:?}, not {wanted_part:?}", part.now()));
     differences.guards("the part", &part);
     let mut call = differences.call(Function::Lookup, &answer);
-    if wanted.number == 0 {
+    if wanted.answer.is_accepted() {
         call.outcomes.push(Outcome::Said(if wanted.stands { "present" } else { "absent" }));
     }
     call
@@ -54,7 +53,7 @@ fn call_lookup(data: &[u8], tag: Tag, random: &mut Random) -> Call {
 fn call_list_stream(room: usize, list: &[u8], data: &[u8], random: &mut Random) -> Call {
     let wanted = list_mode::stream(data, list, room);
     stream_call(Function::ListStream, room, &wanted, random, |out, answer| {
-        lent::list_stream(list, data, out, answer)
+        eddyplume::list_stream(list, data, out, answer)
     })
 }
 
@@ -68,7 +67,7 @@ fn call_list_check(
     let expected = expected_digest(expected, || list_mode::stream(data, list, room));
     let wanted = list_mode::check(data, list, &expected, room);
     check_call(Function::ListCheck, room, &wanted, random, |work, answer, verdict| {
-        lent::list_check(list, data, &expected, work, answer, verdict)
+        eddyplume::list_check(list, data, &expected, work, answer, verdict)
     })
 }
 
@@ -82,7 +81,7 @@ fn call_signature_stream(
     let wanted = signature_mode::stream(data, uid, which, room);
     let number = which.map(|which| which as u64);
     stream_call(Function::SignatureStream, room, &wanted, random, |out, answer| {
-        lent::signature_stream(uid, number, data, out, answer)
+        eddyplume::signature_stream(uid, number, data, out, answer)
     })
 }
 
@@ -98,7 +97,7 @@ fn call_signature_check(
     let wanted = signature_mode::check(data, uid, which, &expected, room);
     let number = which.map(|which| which as u64);
     check_call(Function::SignatureCheck, room, &wanted, random, |work, answer, verdict| {
-        lent::signature_check(uid, number, data, &expected, work, answer, verdict)
+        eddyplume::signature_check(uid, number, data, &expected, work, answer, verdict)
     })
 }
 
@@ -106,15 +105,14 @@ fn call_signature_check(
 fn stream_call(
     function: Function,
     room: usize,
-    wanted: &StreamAnswer,
+    wanted: &Streamed,
     random: &mut Random,
-    call: impl FnOnce(&mut [u8], &mut [u64; 3]),
+    call: impl FnOnce(&mut [u8], &mut Answer),
 ) -> Call {
-    let (mut out, mut answer) = (any_bytes(room, random), any_numbers(3, random));
-    call(out.lent(), answer.array());
+    let (mut out, mut answer) = (any_bytes(room, random), any_answer(random));
+    call(out.lent(), answer.cell());
     let mut differences = Differences::default();
-    let wanted_answer = [wanted.number.into(), wanted.position as u64, wanted.length as u64];
-    differences.answer(&answer, wanted_answer);
+    differences.answer(&answer, wanted.answer);
     differences.written("the output", &out, wanted.stream.as_deref());
     differences.call(function, &answer)
 }
@@ -123,26 +121,24 @@ fn stream_call(
 fn check_call(
     function: Function,
     room: usize,
-    wanted: &CheckAnswer,
+    wanted: &Checked,
     random: &mut Random,
-    call: impl FnOnce(&mut [u8], &mut [u64; 3], &mut [u8; 1]),
+    call: impl FnOnce(&mut [u8], &mut Answer, &mut [u8; 1]),
 ) -> Call {
-    let (mut work, mut answer) = (any_bytes(room, random), any_numbers(3, random));
+    let (mut work, mut answer) = (any_bytes(room, random), any_answer(random));
     let mut verdict = any_bytes(1, random);
-    call(work.lent(), answer.array(), verdict.array());
+    call(work.lent(), answer.cell(), verdict.array());
     let mut differences = Differences::default();
-    let wanted_answer = [wanted.number.into(), wanted.position as u64, wanted.length as u64];
-    differences.answer(&answer, wanted_answer);
+    differences.answer(&answer, wanted.answer);
     differences.written("the work buffer", &work, wanted.stream.as_deref());
-    let (byte, said) = match wanted.verdict {
-        Verdict::Neither => (0, None),
-        Verdict::Same => (1, Some("same")),
-        Verdict::Differs => (2, Some("differs")),
-    };
-    let verdict_now = verdict.now()[0];
-    differences.hold(verdict_now == byte, || format!("verdict {verdict_now}, not {byte}"));
+    let (now, code) = (verdict.now()[0], wanted.verdict as u8);
+    differences.hold(now == code, || format!("verdict {now}, not {code}"));
     differences.guards("the verdict", &verdict);
     let mut call = differences.call(function, &answer);
-    call.outcomes.extend(said.map(Outcome::Said));
+    call.outcomes.extend(match wanted.verdict {
+        Verdict::Neither => None,
+        Verdict::Same => Some(Outcome::Said("same")),
+        Verdict::Differs => Some(Outcome::Said("differs")),
+    });
     call
 }

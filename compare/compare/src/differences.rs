@@ -3,6 +3,7 @@
 
 use crate::guarded::Guarded;
 use crate::tally::{Function, Outcome};
+use independent::Answer;
 
 /// What one call of the archive gave, and in what it differs.
 pub struct Call {
@@ -31,8 +32,9 @@ impl Differences {
     }
 
     /// The answer is this one.
-    pub fn answer(&mut self, answer: &Guarded<u64>, wanted: [u64; 3]) {
-        self.hold(answer.now() == wanted, || format!("answer {:?}, not {wanted:?}", answer.now()));
+    pub fn answer(&mut self, answer: &Guarded<Answer>, wanted: Answer) {
+        let now = answer.now()[0];
+        self.hold(now == wanted, || format!("{now:?}, not {wanted:?}"));
         self.guards("the answer", answer);
     }
 
@@ -51,8 +53,8 @@ impl Differences {
     }
 
     /// The call of `function` that gave this answer.
-    pub fn call(self, function: Function, answer: &Guarded<u64>) -> Call {
-        let outcomes = vec![Outcome::Number(answer.now()[0])];
+    pub fn call(self, function: Function, answer: &Guarded<Answer>) -> Call {
+        let outcomes = vec![Outcome::Number(answer.now()[0].number)];
         Call { function, outcomes, differences: self.found }
     }
 }

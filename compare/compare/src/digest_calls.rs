@@ -2,10 +2,10 @@
 //! independent implementation.
 
 use crate::differences::{Call, Differences};
-use crate::guarded::{any_bytes, any_numbers, Guarded};
+use crate::guarded::{any_answer, any_bytes, any_numbers, Guarded};
 use crate::tally::Function;
-use eddyplume::lent;
 use independent::sha256::{sha256, RunningDigest};
+use independent::Answer;
 use inputs::random::Random;
 
 /// The digest of all parts in one call, and fed part by part.
@@ -24,10 +24,10 @@ pub fn call_digest(parts: &[Vec<u8>], random: &mut Random) -> Vec<Call> {
 }
 
 fn call_sha256(message: &[u8], random: &mut Random) -> Call {
-    let (mut digest, mut answer) = (any_bytes(32, random), any_numbers(3, random));
-    lent::sha256(message, digest.array(), answer.array());
+    let (mut digest, mut answer) = (any_bytes(32, random), any_answer(random));
+    eddyplume::sha256(message, digest.array(), answer.cell());
     let mut differences = Differences::default();
-    differences.answer(&answer, [0; 3]);
+    differences.answer(&answer, Answer::accepted(0));
     differences.written("the digest", &digest, Some(&sha256(message)));
     differences.call(Function::Sha256, &answer)
 }
@@ -73,7 +73,7 @@ fn start_differences(start: &RunningDigest, random: &mut Random) -> Vec<String> 
         waiting: any_bytes(64, random),
         counts: any_numbers(2, random),
     };
-    lent::digest_start(state.words.array(), state.waiting.array(), state.counts.array());
+    eddyplume::digest_start(state.words.array(), state.waiting.array(), state.counts.array());
     let mut differences = Differences::default();
     state.hold(&mut differences, start);
     differences.found().iter().map(|difference| format!("digest_start: {difference}")).collect()
@@ -81,26 +81,27 @@ fn start_differences(start: &RunningDigest, random: &mut Random) -> Vec<String> 
 
 pub fn call_feed(from: &RunningDigest, bytes: &[u8], random: &mut Random) -> Call {
     let mut state = LentState::holding(from, random);
-    let mut answer = any_numbers(3, random);
+    let mut answer = any_answer(random);
     let LentState { words, waiting, counts } = &mut state;
-    lent::digest_feed(words.array(), waiting.array(), counts.array(), bytes, answer.array());
+    let (words, waiting, counts) = (words.array(), waiting.array(), counts.array());
+    eddyplume::digest_feed(words, waiting, counts, bytes, answer.cell());
     let wanted = from.feed(bytes);
     let mut differences = Differences::default();
-    differences.answer(&answer, [wanted.number.into(), 0, 0]);
+    differences.answer(&answer, wanted.answer);
     state.hold(&mut differences, &wanted.next);
     differences.call(Function::DigestFeed, &answer)
 }
 
 pub fn call_finish(from: &RunningDigest, random: &mut Random) -> Call {
     let mut state = LentState::holding(from, random);
-    let (mut digest, mut answer) = (any_bytes(32, random), any_numbers(3, random));
+    let (mut digest, mut answer) = (any_bytes(32, random), any_answer(random));
     let LentState { words, waiting, counts } = &mut state;
     let (words, waiting, counts) = (words.array(), waiting.array(), counts.array());
-    lent::digest_finish(words, waiting, counts, digest.array(), answer.array());
+    eddyplume::digest_finish(words, waiting, counts, digest.array(), answer.cell());
     let wanted = from.finish();
     let mut differences = Differences::default();
-    differences.answer(&answer, [wanted.number.into(), 0, 0]);
-    let digest_wanted = (wanted.number == 0).then_some(&wanted.digest[..]);
+    differences.answer(&answer, wanted.answer);
+    let digest_wanted = wanted.answer.is_accepted().then_some(&wanted.digest[..]);
     differences.written("the digest", &digest, digest_wanted);
     state.hold(&mut differences, from);
     differences.call(Function::DigestFinish, &answer)

@@ -1,15 +1,14 @@
 //! `compare files` and `compare stream`: the data sets of DICOM files.
 
 use crate::arguments::{Arguments, Stop};
-use crate::sentences::sentence;
-use eddyplume::Answer;
+use eddyplume::{sentence, written};
 use expect::spelling::{read_tag, read_which, write_hex};
 use independent::reading::{read, Content, Tag};
 use independent::sha256::sha256;
 use independent::signature_mode::DIGITAL_SIGNATURES_SEQUENCE;
 use independent::stream::holds_unknown;
 use independent::tag_list::{is_barred, MOST_TAGS};
-use independent::{list_mode, lookup, signature_mode, StreamAnswer};
+use independent::{list_mode, lookup, signature_mode, Answer, Streamed};
 use inputs::part10;
 use inputs::tag_lists::bytes_of;
 use std::io::{self, Write};
@@ -135,7 +134,9 @@ fn compared(file: &part10::File, asked: &Asked) -> bool {
     let mut agree = true;
     match asked.list.clone().or_else(|| list_of_all(file.data)) {
         Some(list) => {
-            let ours = Stream::of(file.data, |out| eddyplume::list_stream(&list, file.data, out));
+            let ours = Stream::of(file.data, |out, answer| {
+                eddyplume::list_stream(&list, file.data, out, answer)
+            });
             let wanted = list_mode::stream(file.data, &list, file.data.len());
             agree &= ours.shown(&format!("list mode, {} tags", list.len() / 4), &wanted);
         }
@@ -143,8 +144,8 @@ fn compared(file: &part10::File, asked: &Asked) -> bool {
     }
     for which in signatures(file.data, asked) {
         let (uid, number) = (asked.uid(file), which.map(|which| which as u64));
-        let ours = Stream::of(file.data, |out| {
-            eddyplume::signature_stream(uid, number, file.data, out)
+        let ours = Stream::of(file.data, |out, answer| {
+            eddyplume::signature_stream(uid, number, file.data, out, answer)
         });
         let wanted = signature_mode::stream(file.data, uid, which, file.data.len());
         let name = which.map_or("none".to_string(), |which| which.to_string());
@@ -161,35 +162,28 @@ struct Stream {
 
 impl Stream {
     /// Calls with an output as long as the data set, which always serves.
-    fn of(data: &[u8], call: impl FnOnce(&mut [u8]) -> Answer) -> Stream {
+    fn of(data: &[u8], call: impl FnOnce(&mut [u8], &mut Answer)) -> Stream {
         let mut out = vec![0; data.len()];
-        let answer = call(&mut out);
+        let answer = written(|answer| call(&mut out, answer));
         out.truncate(answer.length as usize);
         Stream { answer, out }
     }
 
     /// Prints the answer beside what was wanted; whether they agree.
-    fn shown(&self, what: &str, wanted: &StreamAnswer) -> bool {
+    fn shown(&self, what: &str, wanted: &Streamed) -> bool {
         println!("  {what}: {}", said(self.answer));
-        if self.answer.number == 0 {
-            let (_, digest) = eddyplume::sha256(&self.out);
-            let digest = digest.unwrap_or_default();
+        let (digest, _) = written(|(digest, answer)| eddyplume::sha256(&self.out, digest, answer));
+        if self.answer.is_accepted() {
             println!("    stream of {} bytes, SHA-256 {}", self.out.len(), write_hex(&digest));
         }
-        let digests = wanted.stream.as_deref().map(sha256);
-        agreement(
-            (self.answer.number, self.answer.position, self.answer.length)
-                == (wanted.number.into(), wanted.position as u64, wanted.length as u64)
-                && self.out == wanted.stream.as_deref().unwrap_or(&[])
-                && digests.is_none_or(|digest| eddyplume::sha256(&self.out).1 == Some(digest)),
-        )
+        let stream = wanted.stream.as_deref().unwrap_or(&[]);
+        agreement(self.answer == wanted.answer && self.out == stream && digest == sha256(stream))
     }
 }
 
-/// An answer's three numbers and its sentence.
+/// An answer and its sentence.
 fn said(answer: Answer) -> String {
-    let Answer { number, position, length } = answer;
-    format!("{number} {position} {length}: {}", sentence(number))
+    format!("{answer}: {}", sentence(answer.number))
 }
 
 fn agreement(agree: bool) -> bool {
@@ -216,10 +210,10 @@ fn list_of_all(data: &[u8]) -> Option<Vec<u8>> {
 /// A refused data set has no list; the lookup of any tag shows the refusal.
 fn reading_shown(data: &[u8]) -> bool {
     const SOP_CLASS_UID: Tag = Tag::new(0x0008, 0x0016);
-    let ours = eddyplume::lookup(data, SOP_CLASS_UID.0).answer;
-    let wanted = lookup::lookup(data, SOP_CLASS_UID);
+    let (ours, _) =
+        written(|(answer, part)| eddyplume::lookup(data, SOP_CLASS_UID.0, answer, part));
     println!("  reading: {}", said(ours));
-    agreement((ours.number, ours.position) == (wanted.number.into(), wanted.position as u64))
+    agreement(ours == lookup::lookup(data, SOP_CLASS_UID).answer)
 }
 
 /// The one signature that is asked for, or each that the data set has.
@@ -248,14 +242,14 @@ pub fn run_stream(words: &[String]) -> Result<ExitCode, Stop> {
     }
     let bytes = std::fs::read(name).map_err(|error| Stop::failed(name, error))?;
     let file = part10::read(&bytes).map_err(|why| Stop::failed(name, why))?;
-    let stream = Stream::of(file.data, |out| match (&asked.list, asked.signature) {
-        (Some(list), _) => eddyplume::list_stream(list, file.data, out),
+    let stream = Stream::of(file.data, |out, answer| match (&asked.list, asked.signature) {
+        (Some(list), _) => eddyplume::list_stream(list, file.data, out, answer),
         (None, which) => {
             let number = which.flatten().map(|which| which as u64);
-            eddyplume::signature_stream(asked.uid(&file), number, file.data, out)
+            eddyplume::signature_stream(asked.uid(&file), number, file.data, out, answer)
         }
     });
-    if stream.answer.number != 0 {
+    if !stream.answer.is_accepted() {
         eprintln!("{name}: {}", said(stream.answer));
         return Ok(ExitCode::from(1));
     }

@@ -1,5 +1,6 @@
 //! Buffers that are lent to the archive between guards.
 
+use independent::Answer;
 use inputs::random::Random;
 
 /// Guard cells on either side.
@@ -41,6 +42,12 @@ impl<T: Copy + PartialEq> Guarded<T> {
         self.lent().try_into().expect("the count of cells")
     }
 
+    /// The same where it is one cell.
+    pub fn cell(&mut self) -> &mut T {
+        let [cell] = self.array();
+        cell
+    }
+
     /// What stands there now.
     pub fn now(&self) -> &[T] {
         &self.cells[self.inside()]
@@ -61,6 +68,15 @@ impl<T: Copy + PartialEq> Guarded<T> {
 
 pub fn any_bytes(count: usize, random: &mut Random) -> Guarded<u8> {
     Guarded::any(count, || random.byte())
+}
+
+/// The place of an answer.
+pub fn any_answer(random: &mut Random) -> Guarded<Answer> {
+    Guarded::any(1, || Answer {
+        number: random.number(),
+        position: random.number(),
+        length: random.number(),
+    })
 }
 
 pub fn any_numbers(count: usize, random: &mut Random) -> Guarded<u64> {

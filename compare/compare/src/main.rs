@@ -12,7 +12,6 @@ mod guarded;
 mod plain_sha256;
 mod program;
 mod random;
-mod sentences;
 mod tally;
 
 use arguments::Stop;

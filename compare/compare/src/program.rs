@@ -19,14 +19,14 @@ pub fn run(words: &[String]) -> Result<ExitCode, Stop> {
         return Err(Stop::Usage("the path of mac_stream is needed".to_string()));
     };
 
-    let mut counts: BTreeMap<u32, u64> = BTreeMap::new();
+    let mut counts: BTreeMap<u64, u64> = BTreeMap::new();
     let mut differing = 0;
     for index in 0..cases {
         let input = inputs::frames::frame(seed, index);
         let wanted = frame::run(&input);
         let (printed, status) =
             fed(program, &input).map_err(|error| Stop::failed(program, error))?;
-        *counts.entry(wanted.number).or_insert(0) += 1;
+        *counts.entry(wanted.answer.number).or_insert(0) += 1;
         if printed == wanted.text && status.success() {
             continue;
         }

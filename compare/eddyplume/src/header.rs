@@ -1,87 +1,61 @@
-//! The functions of include/eddyplume.h; tests/header.rs holds their types to it.
+//! The functions of include/eddyplume.h, in its order; tests/header.rs holds their types
+//! to it.
 
-extern "C" {
-    pub fn eddyplume_list_stream(
-        list: *const u8,
-        list_len: usize,
-        data: *const u8,
-        data_len: usize,
-        out: *mut u8,
-        out_len: usize,
-        answer: *mut u64,
+use answer::Answer;
+
+functions! {
+    /// The stream of `list` in `data`, written to the start of `out`.
+    pub fn list_stream = eddyplume_list_stream(
+        list: &[u8], data: &[u8], out: &mut [u8], answer: &mut Answer
     );
 
-    pub fn eddyplume_list_check(
-        list: *const u8,
-        list_len: usize,
-        data: *const u8,
-        data_len: usize,
-        expected: *const u8,
-        expected_len: usize,
-        work: *mut u8,
-        work_len: usize,
-        answer: *mut u64,
-        verdict: *mut u8,
+    /// Whether the stream of `list` in `data` has the digest `expected`; `verdict` is the
+    /// code of a `Verdict`.
+    pub fn list_check = eddyplume_list_check(
+        list: &[u8], data: &[u8], expected: &[u8], work: &mut [u8],
+        answer: &mut Answer, verdict: &mut [u8; 1]
     );
 
-    pub fn eddyplume_signature_stream(
-        uid: *const u8,
-        uid_len: usize,
-        numbered: bool,
-        number: u64,
-        data: *const u8,
-        data_len: usize,
-        out: *mut u8,
-        out_len: usize,
-        answer: *mut u64,
+    /// The stream of a signature in `data`, written to the start of `out`; `uid` is the
+    /// data set's transfer syntax, `number` is as in RULES 8.1: "signatures are counted
+    /// from 0. Where no number is given, 0 is taken."
+    pub fn signature_stream = eddyplume_signature_stream(
+        uid: &[u8], number: Option<u64>, data: &[u8], out: &mut [u8], answer: &mut Answer
     );
 
-    pub fn eddyplume_signature_check(
-        uid: *const u8,
-        uid_len: usize,
-        numbered: bool,
-        number: u64,
-        data: *const u8,
-        data_len: usize,
-        expected: *const u8,
-        expected_len: usize,
-        work: *mut u8,
-        work_len: usize,
-        answer: *mut u64,
-        verdict: *mut u8,
+    /// Whether the stream of a signature in `data` has the digest `expected`.
+    pub fn signature_check = eddyplume_signature_check(
+        uid: &[u8], number: Option<u64>, data: &[u8], expected: &[u8], work: &mut [u8],
+        answer: &mut Answer, verdict: &mut [u8; 1]
     );
 
-    pub fn eddyplume_lookup(
-        data: *const u8,
-        data_len: usize,
-        tag: u32,
-        answer: *mut u64,
-        part: *mut u64,
+    /// The value of the top-level `tag` in `data`; the tag is RULES 2.5's "number group
+    /// times 65,536 plus element". `part` is present (0 or 1), start and length of the
+    /// value in `data`.
+    pub fn lookup = eddyplume_lookup(
+        data: &[u8], tag: u32, answer: &mut Answer, part: &mut [u64; 3]
     );
 
-    pub fn eddyplume_sha256(
-        message: *const u8,
-        message_len: usize,
-        digest: *mut u8,
-        answer: *mut u64,
+    /// The digest of `message`.
+    pub fn sha256 = eddyplume_sha256(
+        message: &[u8], digest: &mut [u8; 32], answer: &mut Answer
     );
 
-    pub fn eddyplume_digest_start(words: *mut u32, waiting: *mut u8, counts: *mut u64);
-
-    pub fn eddyplume_digest_feed(
-        words: *mut u32,
-        waiting: *mut u8,
-        counts: *mut u64,
-        bytes: *const u8,
-        bytes_len: usize,
-        answer: *mut u64,
+    /// The running digest of no bytes; `counts` is how many bytes wait, and how many were
+    /// fed in all.
+    pub fn digest_start = eddyplume_digest_start(
+        words: &mut [u32; 8], waiting: &mut [u8; 64], counts: &mut [u64; 2]
     );
 
-    pub fn eddyplume_digest_finish(
-        words: *const u32,
-        waiting: *const u8,
-        counts: *const u64,
-        digest: *mut u8,
-        answer: *mut u64,
+    /// Makes the next running digest; a refusal leaves it as it is.
+    pub fn digest_feed = eddyplume_digest_feed(
+        words: &mut [u32; 8], waiting: &mut [u8; 64], counts: &mut [u64; 2], bytes: &[u8],
+        answer: &mut Answer
+    );
+
+    /// The digest of all that was fed.
+    pub fn digest_finish = eddyplume_digest_finish(
+        words: &[u32; 8], waiting: &[u8; 64], counts: &[u64; 2], digest: &mut [u8; 32],
+        answer: &mut Answer
     );
 }

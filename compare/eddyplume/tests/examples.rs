@@ -1,8 +1,8 @@
 //! Examples of docs/RULES.md and a published digest through the wrapper.
 
 use eddyplume::{
-    list_check, list_stream, lookup, sha256, signature_check, signature_stream, Answer, Running,
-    Verdict,
+    digest_feed, digest_finish, digest_start, list_check, list_stream, lookup, sha256,
+    signature_check, signature_stream, written, Answer, Verdict,
 };
 
 const A: &[u8] = &[0x08, 0x00, 0x60, 0x00, 0x43, 0x53, 0x02, 0x00, 0x43, 0x54];
@@ -15,54 +15,73 @@ const DIGEST_OF_ABC: [u8; 32] = [
     0xb0, 0x03, 0x61, 0xa3, 0x96, 0x17, 0x7a, 0x9c, 0xb4, 0x10, 0xff, 0x61, 0xf2, 0x00, 0x15, 0xad,
 ];
 
-fn answer(number: u64, position: u64, length: u64) -> Answer {
-    Answer { number, position, length }
+fn streamed(list: &[u8], data: &[u8], out: &mut [u8]) -> Answer {
+    written(|answer| list_stream(list, data, out, answer))
 }
 
 #[test]
 fn list_mode() {
     let data = [A, B].concat();
     let mut out = [0xEE; 12];
-    assert_eq!(list_stream(LIST, &data, &mut out), answer(0, 0, 10));
+    assert_eq!(streamed(LIST, &data, &mut out), Answer::accepted(10));
     assert_eq!((&out[..10], &out[10..]), (A, &[0xEE, 0xEE][..]));
-    assert_eq!(list_stream(&[0x08, 0x00, 0x61, 0x00], &data, &mut out), answer(13, 0, 0));
-    assert_eq!(list_stream(LIST, &[B, A].concat(), &mut out), answer(4, 10, 0));
-    assert_eq!(list_stream(LIST, &data, &mut out[..9]), answer(16, 0, 0));
-    assert_eq!(list_stream(&[], &[], &mut []), answer(10, 0, 0));
+    assert_eq!(streamed(&[0x08, 0x00, 0x61, 0x00], &data, &mut out), Answer::refused_at(13, 0));
+    assert_eq!(streamed(LIST, &[B, A].concat(), &mut out), Answer::refused_at(4, 10));
+    assert_eq!(streamed(LIST, &data, &mut out[..9]), Answer::refused(16));
+    assert_eq!(streamed(&[], &[], &mut []), Answer::refused(10));
 
-    let mut digest = sha256(A).1.unwrap();
-    let right = list_check(LIST, &data, &digest, &mut out);
-    assert_eq!((right.answer, right.verdict), (answer(0, 0, 10), Verdict::Same));
+    let (mut digest, _) = written(|(digest, answer)| sha256(A, digest, answer));
+    let mut check = |digest: &[u8]| {
+        written(|(answer, verdict)| list_check(LIST, &data, digest, &mut out, answer, verdict))
+    };
+    assert_eq!(check(&digest), (Answer::accepted(10), [Verdict::Same as u8]));
     digest[0] ^= 1;
-    assert_eq!(list_check(LIST, &data, &digest, &mut out).verdict, Verdict::Differs);
-    let short = list_check(LIST, &data, &digest[1..], &mut out);
-    assert_eq!((short.answer, short.verdict), (answer(9, 0, 0), Verdict::Neither));
+    assert_eq!(check(&digest), (Answer::accepted(10), [Verdict::Differs as u8]));
+    assert_eq!(check(&digest[1..]), (Answer::refused(9), [Verdict::Neither as u8]));
 }
 
 #[test]
 fn signature_mode_without_a_signature() {
-    assert_eq!(signature_stream(b"1.2", None, A, &mut []), answer(18, 0, 0));
-    let checked = signature_check(b"1.2", Some(u64::MAX), A, &[0; 32], &mut []);
-    assert_eq!((checked.answer, checked.verdict), (answer(18, 0, 0), Verdict::Neither));
+    let answer = written(|answer| signature_stream(b"1.2", None, A, &mut [], answer));
+    assert_eq!(answer, Answer::refused(18));
+    let checked = written(|(answer, verdict)| {
+        signature_check(b"1.2", Some(u64::MAX), A, &[0; 32], &mut [], answer, verdict)
+    });
+    assert_eq!(checked, (Answer::refused(18), [Verdict::Neither as u8]));
 }
 
 #[test]
 fn the_value_of_a_tag() {
-    let found = lookup(A, 0x0008_0060);
-    assert_eq!((found.answer, found.present, found.value), (answer(0, 0, 0), true, &b"CT"[..]));
-    let absent = lookup(A, 0x0008_0061);
-    assert_eq!((absent.present, absent.value), (false, &[][..]));
-    assert_eq!(lookup(&A[..9], 0x0008_0060).answer, answer(2, 0, 0));
+    let look = |data: &[u8], tag| written(|(answer, part)| lookup(data, tag, answer, part));
+    assert_eq!(look(A, 0x0008_0060), (Answer::accepted(0), [1, 8, 2]));
+    assert_eq!(look(A, 0x0008_0061), (Answer::accepted(0), [0, 10, 0]));
+    assert_eq!(look(&A[..9], 0x0008_0060), (Answer::refused_at(2, 0), [0, 9, 0]));
 }
 
 #[test]
 fn digests() {
-    assert_eq!(sha256(b"abc"), (answer(0, 0, 0), Some(DIGEST_OF_ABC)));
-    let (_, running) = Running::start().feed(b"a");
-    let (fed, running) = running.feed(b"bc");
-    assert_eq!((fed.number, running.counts), (0, [3, 3]));
-    assert_eq!(running.finish(), (answer(0, 0, 0), Some(DIGEST_OF_ABC)));
-    let impossible = Running { counts: [4, 3], ..running };
-    assert_eq!(impossible.feed(b"d"), (answer(25, 0, 0), impossible));
-    assert_eq!(impossible.finish(), (answer(25, 0, 0), None));
+    let digest = written(|(digest, answer)| sha256(b"abc", digest, answer));
+    assert_eq!(digest, (DIGEST_OF_ABC, Answer::accepted(0)));
+
+    let (mut words, mut waiting, mut counts) = ([0; 8], [0; 64], [0; 2]);
+    digest_start(&mut words, &mut waiting, &mut counts);
+    for bytes in ["a", "bc"] {
+        let answer = written(|answer| {
+            digest_feed(&mut words, &mut waiting, &mut counts, bytes.as_bytes(), answer)
+        });
+        assert_eq!(answer, Answer::accepted(0));
+    }
+    assert_eq!(counts, [3, 3]);
+    let finish = |counts: &[u64; 2]| {
+        written(|(digest, answer)| digest_finish(&words, &waiting, counts, digest, answer))
+    };
+    assert_eq!(finish(&counts), (DIGEST_OF_ABC, Answer::accepted(0)));
+    assert_eq!(finish(&[4, 3]), ([0; 32], Answer::refused(25)));
+
+    let (words_before, waiting_before) = (words, waiting);
+    let mut impossible = [4, 3];
+    let answer =
+        written(|answer| digest_feed(&mut words, &mut waiting, &mut impossible, b"d", answer));
+    assert_eq!(answer, Answer::refused(25));
+    assert_eq!((words, waiting, impossible), (words_before, waiting_before, [4, 3]));
 }

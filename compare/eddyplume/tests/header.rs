@@ -11,35 +11,58 @@ const RUST: &str = include_str!("../src/header.rs");
 const HEADER: &str = include_str!("../../../include/eddyplume.h");
 
 /// The functions of src/header.rs, and the types of their arguments in C.
-fn functions() -> Vec<(&'static str, Vec<&'static str>)> {
+fn functions() -> Vec<(&'static str, Vec<String>)> {
     let declarations = RUST.split("pub fn ").skip(1);
     declarations.map(|declaration| function(declaration).expect(declaration)).collect()
 }
 
-/// `NAME(ARGUMENT: TYPE, ..);`
-fn function(declaration: &str) -> Option<(&str, Vec<&'static str>)> {
+/// `NAME = C_NAME(ARGUMENT: TYPE, ..);`
+fn function(declaration: &str) -> Option<(&str, Vec<String>)> {
     let (head, _) = declaration.split_once(");")?;
-    let (name, arguments) = head.split_once('(')?;
-    let types = arguments.split(',').filter_map(|argument| argument.split_once(": "));
-    Some((name, types.map(|(_, of)| c_type(of)).collect::<Option<_>>()?))
+    let (names, arguments) = head.split_once('(')?;
+    let (_, c_name) = names.split_once(" = ")?;
+    let mut types = Vec::new();
+    for argument in arguments.split(',') {
+        let (_, of) = argument.trim().split_once(": ")?;
+        types.extend(c_types(of)?);
+    }
+    Some((c_name, types))
 }
 
-/// `size_t` and `uint64_t` are one type to a C compiler for x86-64, so that one
-/// in place of the other is not seen.
-fn c_type(of: &str) -> Option<&'static str> {
-    Some(match of {
-        "*const u8" => "const uint8_t *",
-        "*const u32" => "const uint32_t *",
-        "*const u64" => "const uint64_t *",
-        "*mut u8" => "uint8_t *",
-        "*mut u32" => "uint32_t *",
-        "*mut u64" => "uint64_t *",
-        "bool" => "bool",
-        "u32" => "uint32_t",
-        "u64" => "uint64_t",
-        "usize" => "size_t",
-        _ => return None,
+/// What src/lent.rs makes of an argument of this type. `size_t` and `uint64_t` are one type
+/// to a C compiler for x86-64, so that one in place of the other is not seen.
+fn c_types(of: &str) -> Option<Vec<String>> {
+    let (constant, referred) = match (of.strip_prefix("&mut "), of.strip_prefix('&')) {
+        (Some(referred), _) => ("", referred),
+        (None, Some(referred)) => ("const ", referred),
+        (None, None) => return numbers(of),
+    };
+    let Some(row) = referred.strip_prefix('[').and_then(|row| row.strip_suffix(']')) else {
+        return (referred == "Answer").then(|| vec![format!("{constant}uint64_t *")]);
+    };
+    let pointer = |cell| Some(format!("{constant}{} *", c_number(cell)?));
+    Some(match row.split_once("; ") {
+        Some((cell, _)) => vec![pointer(cell)?],
+        None => vec![pointer(row)?, "size_t".to_string()],
     })
+}
+
+/// A number, or an `Option` of one.
+fn numbers(of: &str) -> Option<Vec<String>> {
+    let number = |of| c_number(of).map(str::to_string);
+    match of.strip_prefix("Option<").and_then(|of| of.strip_suffix('>')) {
+        Some(of) => Some(vec!["bool".to_string(), number(of)?]),
+        None => Some(vec![number(of)?]),
+    }
+}
+
+fn c_number(of: &str) -> Option<&'static str> {
+    match of {
+        "u8" => Some("uint8_t"),
+        "u32" => Some("uint32_t"),
+        "u64" => Some("uint64_t"),
+        _ => None,
+    }
 }
 
 /// A pointer to each function, of the type that src/header.rs declares.

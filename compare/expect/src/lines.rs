@@ -5,7 +5,7 @@ use crate::spelling::{write_hex, write_tag};
 use independent::lookup::{self, Lookup};
 use independent::reading::One;
 use independent::sha256::{sha256, Finished, RunningDigest};
-use independent::{frame, list_mode, reading, signature_mode, CheckAnswer, StreamAnswer, Verdict};
+use independent::{frame, list_mode, reading, signature_mode, Answer, Checked, Streamed, Verdict};
 
 /// What is printed for one line of the case file.
 pub fn expected_lines(line: &[u8]) -> Vec<u8> {
@@ -24,10 +24,7 @@ pub fn expected_lines(line: &[u8]) -> Vec<u8> {
 /// What is printed behind the name.
 fn printed(case: &Case) -> Vec<u8> {
     match case {
-        Case::Read { data } => {
-            let reading = reading::read(data);
-            line(format!("{} {}", reading.number, reading.position))
-        }
+        Case::Read { data } => line(place(reading::read(data).answer)),
         Case::One { left, data } => one_line(reading::read_one(data, *left)),
         Case::Lookup { tag, data } => lookup_line(lookup::lookup(data, *tag)),
         Case::List { room, list, data } => stream_line(list_mode::stream(data, list, *room)),
@@ -52,14 +49,14 @@ fn printed(case: &Case) -> Vec<u8> {
         }
         Case::Feed { state, bytes } => {
             let fed = state.feed(bytes);
-            line(format!("{} {}", fed.number, write_state(&fed.next)))
+            line(format!("{} {}", fed.answer.number, write_state(&fed.next)))
         }
         Case::Finish { state } => finished_line(state.finish()),
     }
 }
 
 /// The expected digest as bytes.
-pub fn expected_digest(expected: &Expected, stream: impl FnOnce() -> StreamAnswer) -> Vec<u8> {
+pub fn expected_digest(expected: &Expected, stream: impl FnOnce() -> Streamed) -> Vec<u8> {
     match expected {
         Expected::Bytes(bytes) => bytes.clone(),
         Expected::RightDigest => match stream().stream {
@@ -69,13 +66,15 @@ pub fn expected_digest(expected: &Expected, stream: impl FnOnce() -> StreamAnswe
     }
 }
 
+/// The answer of a reading: number and position.
+fn place(answer: Answer) -> String {
+    format!("{} {}", answer.number, answer.position)
+}
+
 /// The line of `one`.
 fn one_line(one: One) -> Vec<u8> {
     let Some(element) = one.element else {
-        return line(match one.number {
-            0 => "end".to_string(),
-            number => format!("{number} {}", one.position),
-        });
+        return line(if one.answer.is_accepted() { "end".to_string() } else { place(one.answer) });
     };
     line(format!(
         "0 {} {} {} {} {}",
@@ -90,29 +89,28 @@ fn one_line(one: One) -> Vec<u8> {
 /// The line of `lookup`.
 fn lookup_line(found: Lookup) -> Vec<u8> {
     let stands = if found.stands { "yes" } else { "no" };
-    let head = format!("{} {} {} {}", found.number, found.position, stands, found.length);
+    let head = format!("{} {stands} {}", place(found.answer), found.value.len());
     line_with_hex(head, found.value)
 }
 
 /// The line of `list` and `signature`.
-fn stream_line(answer: StreamAnswer) -> Vec<u8> {
-    let head = format!("{} {} {}", answer.number, answer.position, answer.length);
-    line_with_hex(head, answer.stream.as_deref().unwrap_or(&[]))
+fn stream_line(streamed: Streamed) -> Vec<u8> {
+    line_with_hex(streamed.answer.to_string(), streamed.stream.as_deref().unwrap_or(&[]))
 }
 
 /// The line of `list-check` and `signature-check`.
-fn check_line(answer: CheckAnswer) -> Vec<u8> {
-    let verdict = match answer.verdict {
+fn check_line(checked: Checked) -> Vec<u8> {
+    let verdict = match checked.verdict {
         Verdict::Neither => "neither",
         Verdict::Same => "same",
         Verdict::Differs => "differs",
     };
-    line(format!("{} {} {} {verdict}", answer.number, answer.position, answer.length))
+    line(format!("{} {verdict}", checked.answer))
 }
 
 /// The line of `digest` and `finish`.
 fn finished_line(finished: Finished) -> Vec<u8> {
-    line_with_hex(finished.number.to_string(), &finished.digest)
+    line_with_hex(finished.answer.number.to_string(), &finished.digest)
 }
 
 /// `head`, then a space and the bytes in lower case hex where there are any.

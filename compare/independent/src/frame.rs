@@ -1,7 +1,7 @@
 //! Section 11, "The stream program": its input bytes to the bytes it prints.
 
 use crate::list_mode;
-use crate::{Refusal, StreamAnswer};
+use crate::{Answer, Streamed};
 
 /// 11.1: "Its standard input is a frame of at most 65,536 bytes".
 pub const MOST_INPUT: usize = 65_536;
@@ -12,25 +12,22 @@ pub const OUTPUT_ROOM: usize = 65_536;
 /// The program's answer and what it prints.
 #[derive(Clone, Debug, PartialEq, Eq)]
 pub struct Printed {
-    pub number: u32,
-    pub position: usize,
-    pub length: usize,
-    pub stream: Option<Vec<u8>>,
+    pub answer: Answer,
     pub text: Vec<u8>,
 }
 
 /// What the stream program prints for `input`.
 pub fn run(input: &[u8]) -> Printed {
-    let answer = match parts(input) {
+    let Streamed { answer, stream } = match parts(input) {
         Some((list, data)) => list_mode::stream(data, list, OUTPUT_ROOM),
         // 11.1: "Any other input gives 24, before every other number."
-        None => StreamAnswer::from_result(Err(Refusal::plain(24))),
+        None => Streamed::from_result(Err(Answer::refused(24))),
     };
     // 11.3: "It prints number, position and length in decimal, with one space
     // between"
-    let mut text = format!("{} {} {}\n", answer.number, answer.position, answer.length).into_bytes();
+    let mut text = format!("{answer}\n").into_bytes();
     // 11.3: "then, for number 0, the stream in hex, in lower case, 32 bytes a line"
-    if let Some(stream) = &answer.stream {
+    if let Some(stream) = stream {
         for line in stream.chunks(32) {
             for byte in line {
                 text.extend_from_slice(format!("{byte:02x}").as_bytes());
@@ -38,13 +35,7 @@ pub fn run(input: &[u8]) -> Printed {
             text.push(b'\n');
         }
     }
-    Printed {
-        number: answer.number,
-        position: answer.position,
-        length: answer.length,
-        stream: answer.stream,
-        text,
-    }
+    Printed { answer, text }
 }
 
 /// 11.1: "the byte 1 for the version; a length in bytes, itself four bytes with the

@@ -2,15 +2,13 @@
 //! level, as a part of the data set that it was lent".
 
 use crate::reading::{read, Tag};
+use crate::Answer;
 
-/// The reading's number and position, the part, and whether the tag was found.
+/// The reading's answer, the part, and whether the tag was found.
 #[derive(Clone, Debug, PartialEq, Eq)]
 pub struct Lookup<'d> {
     /// 3.3: "the reading's number (0 to 8) and position".
-    pub number: u32,
-    pub position: usize,
-    /// Length of the part.
-    pub length: usize,
+    pub answer: Answer,
     /// Where the part starts in the data.
     pub offset: usize,
     /// The part itself. 3.1: "the sequence delimiter that closes an element of
@@ -30,12 +28,5 @@ pub fn lookup(data: &[u8], tag: Tag) -> Lookup<'_> {
         // the part has no bytes and lies at the data set's end." (k)
         None => (data.len(), &data[data.len()..], false),
     };
-    Lookup {
-        number: reading.number,
-        position: reading.position,
-        length: value.len(),
-        offset,
-        value,
-        stands,
-    }
+    Lookup { answer: reading.answer, offset, value, stands }
 }

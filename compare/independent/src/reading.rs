@@ -1,6 +1,6 @@
 //! Section 2, "The data set (PS3.5)": the tree of elements, or the leftmost fault.
 
-use crate::Refusal;
+use crate::{answered, Answer};
 
 /// 2.1: "A data set has at most 1,048,576 bytes. It may have none."
 pub const MOST_BYTES: usize = 1_048_576;
@@ -110,24 +110,14 @@ impl<'d> DataSet<'d> {
 /// fault's offset and no tree. The length is 0: nothing is written.
 #[derive(Clone, Debug, PartialEq, Eq)]
 pub struct Reading<'d> {
-    pub number: u32,
-    pub position: usize,
-    pub length: usize,
+    pub answer: Answer,
     pub data_set: Option<DataSet<'d>>,
 }
 
 /// Reads the data set: 1, then 2 to 8.
 pub fn read(data: &[u8]) -> Reading<'_> {
-    let result = check_size(data).and_then(|()| read_checked_size(data));
-    match result {
-        Ok(data_set) => Reading { number: 0, position: 0, length: 0, data_set: Some(data_set) },
-        Err(refusal) => Reading {
-            number: refusal.number,
-            position: refusal.position,
-            length: 0,
-            data_set: None,
-        },
-    }
+    let (answer, data_set) = answered(check_size(data).and_then(|()| read_checked_size(data)));
+    Reading { answer, data_set }
 }
 
 /// What the reading of one element gives: 0 and the element, or 0 and none at the
@@ -135,9 +125,7 @@ pub fn read(data: &[u8]) -> Reading<'_> {
 /// is written.
 #[derive(Clone, Debug, PartialEq, Eq)]
 pub struct One<'d> {
-    pub number: u32,
-    pub position: usize,
-    pub length: usize,
+    pub answer: Answer,
     pub element: Option<Element<'d>>,
 }
 
@@ -150,27 +138,20 @@ pub fn read_one(data: &[u8], left: u32) -> One<'_> {
         Some(_) => Ok(None),
         None => read_element(data, 0, extent, None, level).map(Some),
     });
-    match result {
-        Ok(element) => One { number: 0, position: 0, length: 0, element },
-        Err(refusal) => One {
-            number: refusal.number,
-            position: refusal.position,
-            length: 0,
-            element: None,
-        },
-    }
+    let (answer, element) = answered(result);
+    One { answer, element: element.flatten() }
 }
 
 /// 9.3 row 1: "the data set is larger than 2.1 allows".
-pub(crate) fn check_size(data: &[u8]) -> Result<(), Refusal> {
+pub(crate) fn check_size(data: &[u8]) -> Result<(), Answer> {
     if data.len() > MOST_BYTES {
-        return Err(Refusal::plain(1));
+        return Err(Answer::refused(1));
     }
     Ok(())
 }
 
 /// 2 to 8. 2.3: "The elements of the top data set are at level 0".
-pub(crate) fn read_checked_size(data: &[u8]) -> Result<DataSet<'_>, Refusal> {
+pub(crate) fn read_checked_size(data: &[u8]) -> Result<DataSet<'_>, Answer> {
     let (data_set, _) = read_data_set(data, 0, Extent::top(data), 0)?;
     Ok(data_set)
 }
@@ -230,7 +211,7 @@ fn read_data_set(
     start: usize,
     extent: Extent,
     level: usize,
-) -> Result<(DataSet<'_>, usize), Refusal> {
+) -> Result<(DataSet<'_>, usize), Answer> {
     let mut elements: Vec<Element> = Vec::new();
     let mut at = start;
     loop {
@@ -247,13 +228,13 @@ fn read_data_set(
 
 /// Where reading goes on if the data set ends at `at`; `None` if an element is due
 /// there, for which there are 8 bytes.
-fn read_end(data: &[u8], at: usize, extent: Extent) -> Result<Option<usize>, Refusal> {
+fn read_end(data: &[u8], at: usize, extent: Extent) -> Result<Option<usize>, Answer> {
     if extent.is_end(at) {
         return Ok(Some(at));
     }
     // 2.11a: "fewer than 8 bytes are left in the extent"
     if extent.left(at) < 8 {
-        return Err(Refusal::at(2, at));
+        return Err(Answer::refused_at(2, at));
     }
     // 2.14: "(FFFE,E00D) with length 0, the item delimiter, ends an item of
     // undefined length. It stands in the place of an element and is tested for
@@ -274,16 +255,16 @@ fn read_element(
     extent: Extent,
     before: Option<Tag>,
     level: usize,
-) -> Result<Element<'_>, Refusal> {
+) -> Result<Element<'_>, Answer> {
     let tag = tag_at(data, at);
     // 2.11b: "the group is FFFE"
     if tag.group() == 0xFFFE {
-        return Err(Refusal::at(3, at));
+        return Err(Answer::refused_at(3, at));
     }
     // 2.11c: "the tag is not above that of the element before it in the same
     // data set"
     if before.is_some_and(|before| tag <= before) {
-        return Err(Refusal::at(4, at));
+        return Err(Answer::refused_at(4, at));
     }
     let vr = [data[at + 4], data[at + 5]];
     let (length, value_offset) = read_length(data, at, extent, vr)?; // 5, 2, 6
@@ -308,23 +289,23 @@ fn read_length(
     at: usize,
     extent: Extent,
     vr: [u8; 2],
-) -> Result<(u32, usize), Refusal> {
+) -> Result<(u32, usize), Answer> {
     let short = SHORT_FORM.contains(&&vr);
     let long = LONG_FORM.contains(&&vr);
     // 2.11d: "the VR is neither in 2.6 nor in 2.7"
     if !short && !long {
-        return Err(Refusal::at(5, at));
+        return Err(Answer::refused_at(5, at));
     }
     if short {
         return Ok((two_byte_length_at(data, at + 6), at + 8));
     }
     // 2.11e: "the form is long, and fewer than 12 bytes are left"
     if extent.left(at) < 12 {
-        return Err(Refusal::at(2, at));
+        return Err(Answer::refused_at(2, at));
     }
     // 2.11f: "the reserved bytes are not zero"
     if data[at + 6] != 0 || data[at + 7] != 0 {
-        return Err(Refusal::at(6, at));
+        return Err(Answer::refused_at(6, at));
     }
     Ok((four_byte_length_at(data, at + 8), at + 12))
 }
@@ -337,20 +318,20 @@ fn check_length(
     length: u32,
     left: usize,
     level: usize,
-) -> Result<(), Refusal> {
+) -> Result<(), Answer> {
     // 2.11g: "the length is undefined and the VR neither SQ nor OB, or the length
     // is defined and odd". FFFFFFFF on another VR is odd as a number.
     let undefined = length == UNDEFINED && (vr == *b"SQ" || vr == *b"OB");
     if !undefined && length % 2 == 1 {
-        return Err(Refusal::at(7, at));
+        return Err(Answer::refused_at(7, at));
     }
     // 2.11h: "it is an SQ at level 16"
     if vr == *b"SQ" && level == REFUSED_LEVEL {
-        return Err(Refusal::at(8, at));
+        return Err(Answer::refused_at(8, at));
     }
     // 2.11i: "the length is defined, and the value ends past the extent"
     if !undefined && length as usize > left {
-        return Err(Refusal::at(2, at));
+        return Err(Answer::refused_at(2, at));
     }
     Ok(())
 }
@@ -363,7 +344,7 @@ fn read_content(
     vr: [u8; 2],
     inside: Extent,
     level: usize,
-) -> Result<(Content<'_>, usize, usize), Refusal> {
+) -> Result<(Content<'_>, usize, usize), Answer> {
     if vr == *b"SQ" {
         let (items, value_end, end) = read_items(data, start, inside, level)?;
         Ok((Content::Items(items), value_end, end))
@@ -388,10 +369,10 @@ enum Header {
 
 /// The first checks of an item's or a fragment's header (c): 8 bytes (2),
 /// closing delimiter, other tag (3).
-fn read_item_header(data: &[u8], at: usize, extent: Extent) -> Result<Header, Refusal> {
+fn read_item_header(data: &[u8], at: usize, extent: Extent) -> Result<Header, Answer> {
     // 2.12: "Where fewer than 8 are left, it gives 2."
     if extent.left(at) < 8 {
-        return Err(Refusal::at(2, at));
+        return Err(Answer::refused_at(2, at));
     }
     let tag = tag_at(data, at);
     let length = four_byte_length_at(data, at + 4);
@@ -404,21 +385,21 @@ fn read_item_header(data: &[u8], at: usize, extent: Extent) -> Result<Header, Re
     // gives 3. There .. a delimiter whose length is not 0 gives 3, and so does a
     // delimiter where the item or sequence that it would end has a defined length."
     if tag != ITEM {
-        return Err(Refusal::at(3, at));
+        return Err(Answer::refused_at(3, at));
     }
     Ok(Header::Item { length })
 }
 
 /// The last checks of an item's or a fragment's header with a defined
 /// length (c): odd (7), past the extent (2). Gives the end of its bytes.
-fn check_item_length(at: usize, length: u32, extent: Extent) -> Result<usize, Refusal> {
+fn check_item_length(at: usize, length: u32, extent: Extent) -> Result<usize, Answer> {
     // 2.13: "The defined length of an item is even; an odd one gives 7."
     if length % 2 == 1 {
-        return Err(Refusal::at(7, at));
+        return Err(Answer::refused_at(7, at));
     }
     // 2.13: "The item ends inside the extent; one that does not gives 2."
     if length as usize > extent.left(at + 8) {
-        return Err(Refusal::at(2, at));
+        return Err(Answer::refused_at(2, at));
     }
     Ok(at + 8 + length as usize)
 }
@@ -430,7 +411,7 @@ fn read_items(
     start: usize,
     extent: Extent,
     level: usize,
-) -> Result<(Vec<DataSet<'_>>, usize, usize), Refusal> {
+) -> Result<(Vec<DataSet<'_>>, usize, usize), Answer> {
     let mut items = Vec::new();
     let mut at = start;
     while !extent.is_end(at) {
@@ -458,7 +439,7 @@ fn read_fragments(
     data: &[u8],
     start: usize,
     extent: Extent,
-) -> Result<(Vec<&[u8]>, usize, usize), Refusal> {
+) -> Result<(Vec<&[u8]>, usize, usize), Answer> {
     let mut fragments = Vec::new();
     let mut at = start;
     loop {

@@ -1,5 +1,7 @@
 //! Section 10, "The digest (FIPS 180-4)": SHA-256, and the running digest.
 
+use crate::Answer;
+
 /// 10.1: "FIPS 180-4's 64 constants for the rounds" (FIPS 180-4, 4.2.2).
 pub const ROUND_CONSTANTS: [u32; 64] = [
     0x428a2f98, 0x71374491, 0xb5c0fbcf, 0xe9b5dba5, 0x3956c25b, 0x59f111f1, 0x923f82a4, 0xab1c5ed5,
@@ -35,9 +37,7 @@ pub struct RunningDigest {
 /// What a feeding gives back. Position and length are 0.
 #[derive(Clone, Copy, Debug, PartialEq, Eq)]
 pub struct Fed {
-    pub number: u32,
-    pub position: usize,
-    pub length: usize,
+    pub answer: Answer,
     /// The next running digest; after a refusal the one received.
     pub next: RunningDigest,
 }
@@ -45,9 +45,7 @@ pub struct Fed {
 /// What finishing gives back. Position and length are 0.
 #[derive(Clone, Copy, Debug, PartialEq, Eq)]
 pub struct Finished {
-    pub number: u32,
-    pub position: usize,
-    pub length: usize,
+    pub answer: Answer,
     /// The digest; after a refusal 32 zero bytes.
     pub digest: [u8; 32],
 }
@@ -83,7 +81,7 @@ impl RunningDigest {
     /// returns it. Refused, it returns the old one unchanged."
     pub fn feed(self, bytes: &[u8]) -> Fed {
         if self.refused(bytes.len()) {
-            return Fed { number: 25, position: 0, length: 0, next: self };
+            return Fed { answer: Answer::refused(25), next: self };
         }
         let mut next = self;
         for &byte in bytes {
@@ -96,14 +94,14 @@ impl RunningDigest {
             }
         }
         next.total += bytes.len() as u64;
-        Fed { number: 0, position: 0, length: 0, next }
+        Fed { answer: Answer::accepted(0), next }
     }
 
     /// Pads and gives the digest (FIPS 180-4, 5.1.1 and 6.2.2). 10.5: "Finishing one
     /// that is not possible gives 25 and, as the digest, 32 bytes of zero."
     pub fn finish(self) -> Finished {
         if self.refused(0) {
-            return Finished { number: 25, position: 0, length: 0, digest: [0; 32] };
+            return Finished { answer: Answer::refused(25), digest: [0; 32] };
         }
         let mut words = self.words;
         let mut block = self.waiting;
@@ -119,7 +117,7 @@ impl RunningDigest {
         for (place, word) in digest.chunks_exact_mut(4).zip(words) {
             place.copy_from_slice(&word.to_be_bytes());
         }
-        Finished { number: 0, position: 0, length: 0, digest }
+        Finished { answer: Answer::accepted(0), digest }
     }
 }
 

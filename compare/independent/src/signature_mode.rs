@@ -5,7 +5,7 @@ use crate::list_mode::{check_expected, listed_elements, write_all};
 use crate::reading::{check_size, read_checked_size, Content, DataSet, Element, Tag};
 use crate::stream::holds_unknown;
 use crate::tag_list::{is_barred, tags_of};
-use crate::{CheckAnswer, Refusal, StreamAnswer};
+use crate::{Answer, Checked, Streamed};
 
 pub const MAC_ID_NUMBER: Tag = Tag::new(0x0400, 0x0005);
 pub const MAC_CALCULATION_TRANSFER_SYNTAX_UID: Tag = Tag::new(0x0400, 0x0010);
@@ -23,8 +23,8 @@ const EXPLICIT_VR_BIG_ENDIAN: &[u8] = b"1.2.840.10008.1.2.2";
 
 /// The stream of signature number `which` in `data`, whose transfer syntax
 /// the caller says is `uid`, with `room` bytes of output.
-pub fn stream(data: &[u8], uid: &[u8], which: Option<usize>, room: usize) -> StreamAnswer {
-    StreamAnswer::from_result(run(data, uid, which, None, room))
+pub fn stream(data: &[u8], uid: &[u8], which: Option<usize>, room: usize) -> Streamed {
+    Streamed::from_result(run(data, uid, which, None, room))
 }
 
 /// The check of `expected`, with a work buffer of `room` bytes.
@@ -34,8 +34,8 @@ pub fn check(
     which: Option<usize>,
     expected: &[u8],
     room: usize,
-) -> CheckAnswer {
-    CheckAnswer::from_result(run(data, uid, which, Some(expected), room), expected)
+) -> Checked {
+    Checked::from_result(run(data, uid, which, Some(expected), room), expected)
 }
 
 /// 9.5: "The order of signature mode: 1; 2 to 8; 18 to 23; 10; 11; 12; then for
@@ -46,11 +46,11 @@ fn run(
     which: Option<usize>,
     expected: Option<&[u8]>,
     room: usize,
-) -> Result<Vec<u8>, Refusal> {
+) -> Result<Vec<u8>, Answer> {
     check_size(data)?; // 1
     let data_set = read_checked_size(data)?; // 2 to 8
     let signature = signature_item(&data_set, which)?; // 18
-    let number = mac_id_number(signature).ok_or(Refusal::plain(19))?; // 19
+    let number = mac_id_number(signature).ok_or(Answer::refused(19))?; // 19
     let parameters = parameters_item(&data_set, number)?; // 20
     check_transfer_syntax(parameters, uid)?; // 21
     check_algorithm(parameters)?; // 22
@@ -78,10 +78,10 @@ fn items_of<'t, 'd>(data_set: &'t DataSet<'d>, tag: Tag) -> Option<&'t [DataSet<
 fn signature_item<'t, 'd>(
     data_set: &'t DataSet<'d>,
     which: Option<usize>,
-) -> Result<&'t DataSet<'d>, Refusal> {
+) -> Result<&'t DataSet<'d>, Answer> {
     items_of(data_set, DIGITAL_SIGNATURES_SEQUENCE)
         .and_then(|items| items.get(which.unwrap_or(0)))
-        .ok_or(Refusal::plain(18))
+        .ok_or(Answer::refused(18))
 }
 
 /// 9.3 rows 19 and 20: an item's "(0400,0005) with VR US and length 2", as its two
@@ -98,17 +98,17 @@ fn mac_id_number<'d>(item: &DataSet<'d>) -> Option<&'d [u8]> {
 fn parameters_item<'t, 'd>(
     data_set: &'t DataSet<'d>,
     number: &[u8],
-) -> Result<&'t DataSet<'d>, Refusal> {
+) -> Result<&'t DataSet<'d>, Answer> {
     items_of(data_set, MAC_PARAMETERS_SEQUENCE)
         .and_then(|items| items.iter().find(|item| mac_id_number(item) == Some(number)))
-        .ok_or(Refusal::plain(20))
+        .ok_or(Answer::refused(20))
 }
 
 /// 9.3 row 21: "(0400,0010) is absent, is not UI or is empty; or its value, less
 /// one NUL where it ends in one, is not the caller's UID as it was given, or is
 /// 1.2.840.10008.1.2 or 1.2.840.10008.1.2.2".
-fn check_transfer_syntax(parameters: &DataSet, uid: &[u8]) -> Result<(), Refusal> {
-    let refused = Err(Refusal::plain(21));
+fn check_transfer_syntax(parameters: &DataSet, uid: &[u8]) -> Result<(), Answer> {
+    let refused = Err(Answer::refused(21));
     let element = match parameters.element(MAC_CALCULATION_TRANSFER_SYNTAX_UID) {
         Some(element) => element,
         None => return refused,
@@ -125,8 +125,8 @@ fn check_transfer_syntax(parameters: &DataSet, uid: &[u8]) -> Result<(), Refusal
 
 /// 9.3 row 22: "(0400,0015) is absent, is not CS, or is not SHA256, spaces at its
 /// end aside".
-fn check_algorithm(parameters: &DataSet) -> Result<(), Refusal> {
-    let refused = Err(Refusal::plain(22));
+fn check_algorithm(parameters: &DataSet) -> Result<(), Answer> {
+    let refused = Err(Answer::refused(22));
     let element = match parameters.element(MAC_ALGORITHM) {
         Some(element) => element,
         None => return refused,
@@ -146,10 +146,10 @@ fn check_algorithm(parameters: &DataSet) -> Result<(), Refusal> {
 
 /// 8.3: "The list is the value of (0400,0020) of the parameters item."; 9.3 row 23:
 /// "(0400,0020) is absent or is not AT".
-fn signed_list<'d>(parameters: &DataSet<'d>) -> Result<&'d [u8], Refusal> {
+fn signed_list<'d>(parameters: &DataSet<'d>) -> Result<&'d [u8], Answer> {
     match parameters.element(DATA_ELEMENTS_SIGNED) {
         Some(element) if element.vr == *b"AT" => Ok(element.value),
-        _ => Err(Refusal::plain(23)),
+        _ => Err(Answer::refused(23)),
     }
 }
 

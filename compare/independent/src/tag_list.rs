@@ -1,7 +1,7 @@
 //! Section 4, "The list of tags": 10, 11, 12.
 
 use crate::reading::Tag;
-use crate::Refusal;
+use crate::{answered, Answer};
 
 /// 4.2: "A list has 1 to 1,024 tags".
 pub const MOST_TAGS: usize = 1_024;
@@ -9,30 +9,21 @@ pub const MOST_TAGS: usize = 1_024;
 /// The list's tags, or 10, 11 or 12. The length is 0: nothing is written.
 #[derive(Clone, Debug, PartialEq, Eq)]
 pub struct TagList {
-    pub number: u32,
-    pub position: usize,
-    pub length: usize,
+    pub answer: Answer,
     pub tags: Option<Vec<Tag>>,
 }
 
 /// Reads a tag list: 10, 11 over the whole list, 12 over the whole list.
 pub fn read_list(list: &[u8]) -> TagList {
-    match tags_of(list) {
-        Ok(tags) => TagList { number: 0, position: 0, length: 0, tags: Some(tags) },
-        Err(refusal) => TagList {
-            number: refusal.number,
-            position: refusal.position,
-            length: 0,
-            tags: None,
-        },
-    }
+    let (answer, tags) = answered(tags_of(list));
+    TagList { answer, tags }
 }
 
-pub(crate) fn tags_of(list: &[u8]) -> Result<Vec<Tag>, Refusal> {
+pub(crate) fn tags_of(list: &[u8]) -> Result<Vec<Tag>, Answer> {
     // 9.3 row 10: "the list is empty, has more than 1,024 tags, or is not a
     // multiple of 4 bytes long"
     if list.is_empty() || list.len() > 4 * MOST_TAGS || list.len() % 4 != 0 {
-        return Err(Refusal::plain(10));
+        return Err(Answer::refused(10));
     }
     // 4.1: "Each tag takes four bytes, coded as in a data set."
     let tags: Vec<Tag> = list
@@ -43,13 +34,13 @@ pub(crate) fn tags_of(list: &[u8]) -> Result<Vec<Tag>, Refusal> {
     // tag's index (g)
     for index in 1..tags.len() {
         if tags[index] <= tags[index - 1] {
-            return Err(Refusal::at(11, index));
+            return Err(Answer::refused_at(11, index));
         }
     }
     // 9.3 row 12: "a tag of the list is barred"
     for (index, &tag) in tags.iter().enumerate() {
         if is_barred(tag) {
-            return Err(Refusal::at(12, index));
+            return Err(Answer::refused_at(12, index));
         }
     }
     Ok(tags)

@@ -73,10 +73,10 @@ fn number_25() {
     let start = RunningDigest::start();
     let refused = |running: RunningDigest| {
         let fed = running.feed(b"x");
-        assert_eq!((fed.number, fed.next), (25, running));
-        assert_eq!(running.feed(b"").number, 25);
+        assert_eq!((fed.answer.number, fed.next), (25, running));
+        assert_eq!(running.feed(b"").answer.number, 25);
         let finished = running.finish();
-        assert_eq!((finished.number, finished.digest), (25, [0; 32]));
+        assert_eq!((finished.answer.number, finished.digest), (25, [0; 32]));
     };
     refused(RunningDigest { count: 1, ..start });
     refused(RunningDigest { total: 1, ..start });
@@ -87,22 +87,22 @@ fn number_25() {
     refused(dirty);
     let mut waiting = RunningDigest { count: 63, total: 63, ..start };
     waiting.waiting[62] = 1;
-    assert_eq!(waiting.feed(b"x").number, 0);
+    assert_eq!(waiting.feed(b"x").answer.number, 0);
     waiting.waiting[63] = 1;
     refused(waiting);
     refused(RunningDigest { total: 1 << 61, ..start });
     refused(RunningDigest { total: u64::MAX - 63, ..start });
 
     // 10.3: "The words may be any eight"
-    assert_eq!(RunningDigest { words: [9; 8], ..start }.feed(b"x").number, 0);
+    assert_eq!(RunningDigest { words: [9; 8], ..start }.feed(b"x").answer.number, 0);
 
     // 2^61 - 1 bytes serve, one more does not
     let near = RunningDigest { total: (1 << 61) - 64, ..start };
     let full = near.feed(&[5; 63]);
-    assert_eq!((full.number, full.next.total), (0, MOST_TOTAL));
-    assert_eq!(full.next.finish().number, 0);
+    assert_eq!((full.answer.number, full.next.total), (0, MOST_TOTAL));
+    assert_eq!(full.next.finish().answer.number, 0);
     let over = near.feed(&[5; 64]);
-    assert_eq!((over.number, over.next), (25, near));
-    assert_eq!(full.next.feed(b"").number, 0);
-    assert_eq!(full.next.feed(b"x").number, 25);
+    assert_eq!((over.answer.number, over.next), (25, near));
+    assert_eq!(full.next.feed(b"").answer.number, 0);
+    assert_eq!(full.next.feed(b"x").answer.number, 25);
 }

@@ -2,28 +2,22 @@
 
 mod common;
 use common::*;
-use independent::{frame, list_mode, StreamAnswer};
+use independent::{frame, list_mode, Answer, Streamed};
 
 const ROOM: usize = 65_536;
 
-fn stream(data: &[u8], list: &[u8]) -> StreamAnswer {
+fn stream(data: &[u8], list: &[u8]) -> Streamed {
     list_mode::stream(data, list, ROOM)
 }
 
-fn gives(answer: StreamAnswer, expected: &[u8]) {
-    assert_eq!(
-        answer,
-        StreamAnswer {
-            number: 0,
-            position: 0,
-            length: expected.len(),
-            stream: Some(expected.to_vec())
-        }
-    );
+fn gives(streamed: Streamed, expected: &[u8]) {
+    let answer = Answer::accepted(expected.len());
+    assert_eq!(streamed, Streamed { answer, stream: Some(expected.to_vec()) });
 }
 
-fn refused(answer: StreamAnswer, number: u32, position: usize) {
-    assert_eq!(answer, StreamAnswer { number, position, length: 0, stream: None });
+fn refused(streamed: Streamed, number: u64, position: usize) {
+    let answer = Answer::refused_at(number, position);
+    assert_eq!(streamed, Streamed { answer, stream: None });
 }
 
 fn example_5() -> Vec<u8> {
@@ -108,7 +102,7 @@ fn example_10_empty() {
 #[test]
 fn example_11_levels() {
     let fifteen = nest(16);
-    assert_eq!(stream(&fifteen, &tag(0x0040_A730)).number, 0);
+    assert_eq!(stream(&fifteen, &tag(0x0040_A730)).answer.number, 0);
     // Each enclosing sequence puts 12 + 8 header bytes before the next.
     refused(stream(&nest(17), &tag(0x0040_A730)), 8, 16 * 20);
 }

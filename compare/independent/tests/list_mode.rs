@@ -4,11 +4,10 @@
 mod common;
 use common::*;
 use independent::sha256::sha256;
-use independent::{list_mode, Verdict};
+use independent::{list_mode, Answer, Verdict};
 
-fn said(data: &[u8], list: &[u8]) -> (u32, usize) {
-    let answer = list_mode::stream(data, list, 1000);
-    (answer.number, answer.position)
+fn said(data: &[u8], list: &[u8]) -> (u64, u64) {
+    place(list_mode::stream(data, list, 1000).answer)
 }
 
 fn unknown() -> Vec<u8> {
@@ -47,14 +46,14 @@ fn number_15() {
 fn numbers_9_and_16_and_the_order() {
     // 1 before 10; 10 to 12 before 2; 13 before 9; 9 before 16
     let l = tag(0x0008_0060);
-    assert_eq!(list_mode::stream(&vec![0; 1_048_577], &[], 0).number, 1);
-    assert_eq!(list_mode::stream(&[0], &[], 0).number, 10);
-    assert_eq!(list_mode::stream(&[0], &tag(0x0008_0000), 0).number, 12);
-    assert_eq!(list_mode::check(&B, &l, &[], 0).number, 13);
-    assert_eq!(list_mode::check(&A, &l, &[0; 31], 0).number, 9);
-    assert_eq!(list_mode::check(&A, &l, &[0; 33], 10).number, 9);
+    assert_eq!(list_mode::stream(&vec![0; 1_048_577], &[], 0).answer.number, 1);
+    assert_eq!(list_mode::stream(&[0], &[], 0).answer.number, 10);
+    assert_eq!(list_mode::stream(&[0], &tag(0x0008_0000), 0).answer.number, 12);
+    assert_eq!(list_mode::check(&B, &l, &[], 0).answer.number, 13);
+    assert_eq!(list_mode::check(&A, &l, &[0; 31], 0).answer.number, 9);
+    assert_eq!(list_mode::check(&A, &l, &[0; 33], 10).answer.number, 9);
     let short_room = list_mode::check(&A, &l, &[0; 32], 9);
-    assert_eq!((short_room.number, short_room.length), (16, 0));
+    assert_eq!(short_room.answer, Answer::refused(16));
     assert_eq!(short_room.verdict, Verdict::Neither);
 }
 
@@ -62,9 +61,9 @@ fn numbers_9_and_16_and_the_order() {
 fn verdicts() {
     let l = tag(0x0008_0060);
     let differs = list_mode::check(&A, &l, &[0; 32], 10);
-    assert_eq!((differs.number, differs.length, differs.verdict), (0, 10, Verdict::Differs));
+    assert_eq!((differs.answer, differs.verdict), (Answer::accepted(10), Verdict::Differs));
     let same = list_mode::check(&A, &l, &sha256(&A), 10);
-    assert_eq!((same.number, same.length, same.verdict), (0, 10, Verdict::Same));
+    assert_eq!((same.answer, same.verdict), (Answer::accepted(10), Verdict::Same));
     assert_eq!(same.stream.unwrap(), A);
 }
 
@@ -75,6 +74,6 @@ fn barred_elements_in_a_sequence_are_left_out() {
     let data = long(0x0040_A730, "SQ", &item(&join(&[&S, &deep, &barred])));
     let inner = join(&[&deep[..8], &tag(0xFFFE_E000), &S, &tag(0xFFFE_E0DD)]);
     let expected = join(&[&data[..8], &tag(0xFFFE_E000), &S, &inner, &tag(0xFFFE_E0DD)]);
-    let answer = list_mode::stream(&data, &tag(0x0040_A730), 1000);
-    assert_eq!(answer.stream.unwrap(), expected);
+    let streamed = list_mode::stream(&data, &tag(0x0040_A730), 1000);
+    assert_eq!(streamed.stream.unwrap(), expected);
 }

@@ -2,8 +2,8 @@
 
 mod common;
 use common::*;
-use independent::lookup;
 use independent::reading::Tag;
+use independent::{lookup, Answer};
 
 #[test]
 fn lookups() {
@@ -15,10 +15,9 @@ fn lookups() {
     ]);
     let at = |t: u32| {
         let found = lookup::lookup(&data, Tag(t));
-        assert_eq!((found.number, found.position), (0, 0));
-        assert_eq!(found.length, found.value.len());
-        assert_eq!(found.value, &data[found.offset..found.offset + found.length]);
-        (found.stands, found.offset, found.length)
+        assert_eq!(found.answer, Answer::accepted(0));
+        assert!(data[found.offset..].starts_with(found.value));
+        (found.stands, found.offset, found.value.len())
     };
     assert_eq!(at(0x0008_0060), (true, 8, 2));
     assert_eq!(at(SQ), (true, 22, 26));
@@ -28,6 +27,6 @@ fn lookups() {
     // (k)
     let refused_set = join(&[&A, &[0]]);
     let refused = lookup::lookup(&refused_set, Tag(0x0008_0060));
-    assert_eq!((refused.number, refused.position), (2, 10));
-    assert_eq!((refused.stands, refused.offset, refused.length), (false, 11, 0));
+    assert_eq!(refused.answer, Answer::refused_at(2, 10));
+    assert_eq!((refused.stands, refused.offset, refused.value.len()), (false, 11, 0));
 }

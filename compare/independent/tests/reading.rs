@@ -3,13 +3,13 @@
 
 mod common;
 use common::*;
-use independent::reading::{read, read_one, Tag};
+use independent::reading::{read, read_one, One, Reading, Tag};
 
-fn fault(data: &[u8]) -> (u32, usize) {
-    let reading = read(data);
-    assert_eq!(reading.length, 0);
-    assert_eq!(reading.number == 0, reading.data_set.is_some());
-    (reading.number, reading.position)
+fn fault(data: &[u8]) -> (u64, u64) {
+    let Reading { answer, data_set } = read(data);
+    assert_eq!(answer.length, 0);
+    assert_eq!(answer.is_accepted(), data_set.is_some());
+    place(answer)
 }
 
 #[test]
@@ -202,16 +202,16 @@ fn number_8() {
 
 /// Number, position, and of an element its tag, the offset and length of its value
 /// and the offset behind it.
-type Said = (u32, usize, Option<(u32, usize, usize, usize)>);
+type Said = (u64, u64, Option<(u32, usize, usize, usize)>);
 
 fn one(data: &[u8], left: u32) -> Said {
-    let one = read_one(data, left);
-    assert_eq!(one.length, 0);
-    let element = one.element.map(|element| {
+    let One { answer, element } = read_one(data, left);
+    assert_eq!(answer.length, 0);
+    let element = element.map(|element| {
         let Tag(tag) = element.tag;
         (tag, element.value_offset, element.value.len(), element.offset + element.bytes.len())
     });
-    (one.number, one.position, element)
+    (answer.number, answer.position, element)
 }
 
 #[test]
@@ -238,7 +238,7 @@ fn one_element_by_its_levels() {
             let end = nest(count).len();
             assert_eq!(one(&nest(count), left), (0, 0, Some((SQ, 12, end - 12, end))));
         }
-        assert_eq!(one(&nest(count + 1), left), (8, 20 * count, None));
+        assert_eq!(one(&nest(count + 1), left), (8, 20 * u64::from(left), None));
     }
     for left in [17, u32::MAX] {
         assert_eq!(one(&nest(16), left).0, 0);

@@ -15,7 +15,7 @@ const UID: &[u8] = b"1.2.840.10008.1.2.1";
 fn the_signed_one_is_same_and_the_altered_one_differs() {
     for (data, verdict) in [(SIGNED, Verdict::Same), (ALTERED, Verdict::Differs)] {
         let checked = check(data, UID, None, &hex(DIGEST), data.len());
-        assert_eq!((checked.number, checked.verdict), (0, verdict));
+        assert_eq!((checked.answer.number, checked.verdict), (0, verdict));
     }
 }
 

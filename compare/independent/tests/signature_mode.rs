@@ -4,7 +4,7 @@
 mod common;
 use common::*;
 use independent::sha256::sha256;
-use independent::{signature_mode, Verdict};
+use independent::{signature_mode, Answer, Verdict};
 
 const UID: &[u8] = b"1.2.840.10008.1.2.1";
 
@@ -36,11 +36,11 @@ impl Parameters {
     }
 
     /// What is said where these are the parameters and `uid` is the caller's.
-    fn said_to(&self, uid: &[u8]) -> (u32, usize) {
+    fn said_to(&self, uid: &[u8]) -> (u64, u64) {
         said(&signed(&self.item(), &item(&mac_id(7))), uid, None)
     }
 
-    fn said(&self) -> (u32, usize) {
+    fn said(&self) -> (u64, u64) {
         self.said_to(UID)
     }
 }
@@ -56,9 +56,8 @@ fn signed(parameters: &[u8], signatures: &[u8]) -> Vec<u8> {
 }
 
 /// Number and position.
-fn said(data: &[u8], uid: &[u8], which: Option<usize>) -> (u32, usize) {
-    let answer = signature_mode::stream(data, uid, which, 10_000);
-    (answer.number, answer.position)
+fn said(data: &[u8], uid: &[u8], which: Option<usize>) -> (u64, u64) {
+    place(signature_mode::stream(data, uid, which, 10_000).answer)
 }
 
 /// A signature item with elements that stay and elements that are left out,
@@ -103,16 +102,16 @@ fn stream_and_check() {
     let (signature, stream) = signature_and_its_stream();
     let data = signed(&Parameters::good().item(), &item(&signature));
     let expected = join(&[&A, &stream]);
-    let answer = signature_mode::stream(&data, UID, None, expected.len());
-    assert_eq!((answer.number, answer.position, answer.length), (0, 0, expected.len()));
-    assert_eq!(answer.stream.unwrap(), expected);
-    assert_eq!(signature_mode::stream(&data, UID, Some(0), expected.len() - 1).number, 16);
-    assert_eq!(signature_mode::stream(&data, UID, Some(1), expected.len()).number, 18);
+    let streamed = signature_mode::stream(&data, UID, None, expected.len());
+    assert_eq!(streamed.answer, Answer::accepted(expected.len()));
+    assert_eq!(streamed.stream.unwrap(), expected);
+    assert_eq!(signature_mode::stream(&data, UID, Some(0), expected.len() - 1).answer.number, 16);
+    assert_eq!(signature_mode::stream(&data, UID, Some(1), expected.len()).answer.number, 18);
     let same = signature_mode::check(&data, UID, None, &sha256(&expected), expected.len());
     assert_eq!(same.verdict, Verdict::Same);
     let differs = signature_mode::check(&data, UID, None, &[0; 32], expected.len());
-    assert_eq!((differs.number, differs.verdict), (0, Verdict::Differs));
-    assert_eq!(signature_mode::check(&data, UID, None, &[0; 31], 0).number, 9);
+    assert_eq!((differs.answer.number, differs.verdict), (0, Verdict::Differs));
+    assert_eq!(signature_mode::check(&data, UID, None, &[0; 31], 0).answer.number, 9);
 }
 
 #[test]

@@ -4,13 +4,13 @@
 mod common;
 use common::*;
 use independent::list_mode;
-use independent::tag_list::read_list;
+use independent::tag_list::{read_list, TagList};
 
-fn said(list: &[u8]) -> (u32, usize) {
-    let read = read_list(list);
-    assert_eq!(read.length, 0);
-    assert_eq!(read.number == 0, read.tags.is_some());
-    (read.number, read.position)
+fn said(list: &[u8]) -> (u64, u64) {
+    let TagList { answer, tags } = read_list(list);
+    assert_eq!(answer.length, 0);
+    assert_eq!(answer.is_accepted(), tags.is_some());
+    place(answer)
 }
 
 #[test]
@@ -46,6 +46,6 @@ fn number_12() {
     ] {
         assert_eq!(said(&list(&[good])), GOOD, "{good:08x}");
         // (h) another FFFE tag ends in 13
-        assert_eq!(list_mode::stream(&[], &list(&[good]), 0).number, 13);
+        assert_eq!(list_mode::stream(&[], &list(&[good]), 0).answer.number, 13);
     }
 }

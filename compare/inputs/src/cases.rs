@@ -12,7 +12,7 @@ use crate::tag_lists::tag_list;
 use expect::case::{Case, Expected};
 use independent::reading::Tag;
 use independent::sha256::sha256;
-use independent::{list_mode, signature_mode, StreamAnswer};
+use independent::{list_mode, signature_mode, Streamed};
 
 /// Case number `index` of the run with this seed.
 pub fn case(seed: u64, index: u64) -> Case {
@@ -34,28 +34,28 @@ pub fn case(seed: u64, index: u64) -> Case {
 
 fn list(random: &mut Random) -> Case {
     let (list, data) = list_and_data(random);
-    let answer = list_mode::stream(&data, &list, usize::MAX);
-    Case::List { room: room(random, &answer), list, data }
+    let streamed = list_mode::stream(&data, &list, usize::MAX);
+    Case::List { room: room(random, &streamed), list, data }
 }
 
 fn list_check(random: &mut Random) -> Case {
     let (list, data) = list_and_data(random);
-    let answer = list_mode::stream(&data, &list, usize::MAX);
-    Case::ListCheck { room: room(random, &answer), expected: expected(random, &answer), list, data }
+    let streamed = list_mode::stream(&data, &list, usize::MAX);
+    Case::ListCheck { room: room(random, &streamed), expected: expected(random, &streamed), list, data }
 }
 
 fn signature(random: &mut Random) -> Case {
     let (uid, which, data) = signed_data(random);
-    let answer = signature_mode::stream(&data, &uid, which, usize::MAX);
-    Case::Signature { room: room(random, &answer), uid, which, data }
+    let streamed = signature_mode::stream(&data, &uid, which, usize::MAX);
+    Case::Signature { room: room(random, &streamed), uid, which, data }
 }
 
 fn signature_check(random: &mut Random) -> Case {
     let (uid, which, data) = signed_data(random);
-    let answer = signature_mode::stream(&data, &uid, which, usize::MAX);
+    let streamed = signature_mode::stream(&data, &uid, which, usize::MAX);
     Case::SignatureCheck {
-        room: room(random, &answer),
-        expected: expected(random, &answer),
+        room: room(random, &streamed),
+        expected: expected(random, &streamed),
         uid,
         which,
         data,
@@ -134,21 +134,22 @@ fn signed_data(random: &mut Random) -> (Vec<u8>, Option<usize>, Vec<u8>) {
     (signed.uid, signed.which, data)
 }
 
-/// Output room for an answer: just enough, one less, none, more.
-fn room(random: &mut Random, answer: &StreamAnswer) -> usize {
+/// Output room for a stream: just enough, one less, none, more.
+fn room(random: &mut Random, streamed: &Streamed) -> usize {
+    let length = streamed.answer.length as usize;
     match random.below(20) {
-        0..=8 => answer.length,
-        9 | 10 => answer.length.saturating_sub(1),
+        0..=8 => length,
+        9 | 10 => length.saturating_sub(1),
         11 => 0,
-        12 => random.between(0, answer.length),
-        13 | 14 => answer.length + 1,
-        _ => answer.length + random.between(2, 70),
+        12 => random.between(0, length),
+        13 | 14 => length + 1,
+        _ => length + random.between(2, 70),
     }
 }
 
 /// An expected digest: the right one, a wrong one, one of another length.
-fn expected(random: &mut Random, answer: &StreamAnswer) -> Expected {
-    let mut digest = sha256(answer.stream.as_deref().unwrap_or(&[])).to_vec();
+fn expected(random: &mut Random, streamed: &Streamed) -> Expected {
+    let mut digest = sha256(streamed.stream.as_deref().unwrap_or(&[])).to_vec();
     match random.below(20) {
         0..=9 => {}
         10..=13 => digest[random.below(32)] ^= 1 << random.below(8),
@@ -172,13 +173,13 @@ mod tests {
 
     #[test]
     fn rooms_and_digests_at_every_side() {
-        let answer = list_mode::stream(&[8, 0, 0x60, 0, b'C', b'S', 0, 0], &[8, 0, 0x60, 0], 8);
-        assert_eq!(answer.length, 8);
+        let streamed = list_mode::stream(&[8, 0, 0x60, 0, b'C', b'S', 0, 0], &[8, 0, 0x60, 0], 8);
+        assert_eq!(streamed.answer.length, 8);
         let mut random = Random::new(1);
-        let rooms: Vec<usize> = (0..300).map(|_| room(&mut random, &answer)).collect();
+        let rooms: Vec<usize> = (0..300).map(|_| room(&mut random, &streamed)).collect();
         assert!([0, 7, 8, 9].iter().all(|room| rooms.contains(room)));
-        let right = Expected::Bytes(sha256(answer.stream.as_deref().unwrap()).to_vec());
-        let digests: Vec<Expected> = (0..300).map(|_| expected(&mut random, &answer)).collect();
+        let right = Expected::Bytes(sha256(streamed.stream.as_deref().unwrap()).to_vec());
+        let digests: Vec<Expected> = (0..300).map(|_| expected(&mut random, &streamed)).collect();
         assert!(digests.contains(&right));
         assert!(digests.contains(&Expected::Bytes(vec![])));
         assert!(digests.contains(&Expected::Bytes(vec![0; 32])));

@@ -199,7 +199,7 @@ mod tests {
             let mut random = Random::of_case(1, index);
             let style = Style::any(&mut random);
             let coded = code(&draw_elements(&mut random, style, 0));
-            occurred[read(&damaged(&mut random, &coded)).number as usize] += 1;
+            occurred[read(&damaged(&mut random, &coded)).answer.number as usize] += 1;
         }
         for number in [0, 2, 3, 4, 5, 6, 7] {
             assert!(occurred[number] > 50, "{number}: {occurred:?}");

@@ -225,8 +225,8 @@ mod tests {
             let mut random = Random::of_case(1, index);
             let style = Style::any(&mut random);
             let data = code(&draw_elements(&mut random, style, 0)).bytes;
-            assert_eq!(read(&data).number, 0, "{index}");
-            assert_eq!(read(&code(&wide(&mut random)).bytes).number, 0, "{index}");
+            assert_eq!(read(&data).answer.number, 0, "{index}");
+            assert_eq!(read(&code(&wide(&mut random)).bytes).answer.number, 0, "{index}");
         }
     }
 
@@ -235,7 +235,7 @@ mod tests {
         for index in 0..200 {
             let mut random = Random::of_case(2, index);
             for (innermost, number) in [(14, 0), (15, 0), (16, 8), (17, 8)] {
-                assert_eq!(read(&code(&deep(&mut random, innermost)).bytes).number, number);
+                assert_eq!(read(&code(&deep(&mut random, innermost)).bytes).answer.number, number);
             }
         }
     }
@@ -249,7 +249,7 @@ mod tests {
             let (elements, size) = (long_body(&mut random, style), long_size(&mut random));
             let data = code_in(elements, size);
             assert_eq!(data.len(), size);
-            assert_eq!(read(&data).number, u32::from(size > MOST_BYTES));
+            assert_eq!(read(&data).answer.number, u64::from(size > MOST_BYTES));
             sizes.push(size);
         }
         for size in [MOST_BYTES, MOST_BYTES + 1, MOST_BYTES + 2] {

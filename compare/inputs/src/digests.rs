@@ -76,8 +76,8 @@ mod tests {
             let mut random = Random::of_case(1, index);
             let state = state(&mut random);
             let fed = state.feed(&fed_bytes(&mut random, &state));
-            refused += usize::from(fed.number == 25);
-            reached += usize::from(fed.number == 0 && fed.next.total == MOST_TOTAL);
+            refused += usize::from(fed.answer.number == 25);
+            reached += usize::from(fed.answer.number == 0 && fed.next.total == MOST_TOTAL);
             impossible += usize::from(!state.possible());
         }
         assert!(refused > 200 && reached > 100 && impossible > 200 && impossible < 700);

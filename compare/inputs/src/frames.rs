@@ -65,8 +65,8 @@ mod tests {
 
     #[test]
     fn good_and_bad_frames_occur() {
-        let numbers: Vec<u32> =
-            (0..3_000).map(|index| independent::frame::run(&frame(1, index)).number).collect();
+        let run = |index| independent::frame::run(&frame(1, index));
+        let numbers: Vec<u64> = (0..3_000).map(|index| run(index).answer.number).collect();
         for number in [0, 2, 3, 4, 5, 7, 8, 10, 11, 12, 13, 24] {
             assert!(numbers.contains(&number), "{number}");
         }

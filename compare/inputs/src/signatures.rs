@@ -263,8 +263,8 @@ mod tests {
             let body = draw_elements(&mut random, style, 0);
             let signed = signed(&mut random, body);
             let data = code(&signed.elements).bytes;
-            let answer = signature_mode::stream(&data, &signed.uid, signed.which, usize::MAX);
-            occurred[answer.number as usize] += 1;
+            let streamed = signature_mode::stream(&data, &signed.uid, signed.which, usize::MAX);
+            occurred[streamed.answer.number as usize] += 1;
         }
         for number in [0, 10, 11, 12, 13, 14, 15, 18, 19, 20, 21, 22, 23] {
             assert!(occurred[number] > 20, "{number}: {occurred:?}");

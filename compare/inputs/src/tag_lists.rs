@@ -95,7 +95,7 @@ mod tests {
             let mut random = Random::of_case(1, index);
             let style = Style::any(&mut random);
             let elements = draw_elements(&mut random, style, 0);
-            occurred[read_list(&tag_list(&mut random, &elements)).number as usize] += 1;
+            occurred[read_list(&tag_list(&mut random, &elements)).answer.number as usize] += 1;
         }
         for number in [0, 10, 11, 12] {
             assert!(occurred[number] > 100, "{number}: {occurred:?}");

@@ -147,7 +147,7 @@ mod tests {
                 assert!(data.len() > full * 9 / 10 && signed_data.len() <= full, "{name}");
                 let bare = list_mode::stream(&data, &list, MOST_BYTES);
                 let signed = signature_mode::stream(&signed_data, UID, None, MOST_BYTES);
-                assert_eq!((bare.number, signed.number), (0, 0), "{name}");
+                assert_eq!((bare.answer.number, signed.answer.number), (0, 0), "{name}");
                 assert!(signed.stream.unwrap().starts_with(&bare.stream.unwrap()), "{name}");
             }
         }

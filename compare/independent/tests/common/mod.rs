@@ -1,6 +1,8 @@
 //! Hand coding of elements for the tests.
 #![allow(dead_code)]
 
+use independent::Answer;
+
 pub const A: [u8; 10] = [0x08, 0x00, 0x60, 0x00, 0x43, 0x53, 0x02, 0x00, 0x43, 0x54];
 pub const B: [u8; 10] = [0x10, 0x00, 0x10, 0x00, 0x50, 0x4E, 0x02, 0x00, 0x4C, 0x69];
 pub const S: [u8; 10] = [0x08, 0x00, 0x00, 0x01, 0x53, 0x48, 0x02, 0x00, 0x41, 0x31];
@@ -14,7 +16,12 @@ pub const SQ: u32 = 0x0040_A730;
 pub const PIXELS: u32 = 0x7FE0_0010;
 
 /// Number and position of what is accepted.
-pub const GOOD: (u32, usize) = (0, 0);
+pub const GOOD: (u64, u64) = (0, 0);
+
+/// Number and position.
+pub fn place(answer: Answer) -> (u64, u64) {
+    (answer.number, answer.position)
+}
 
 /// Bytes from hex; spaces and commas are passed over.
 pub fn hex(text: &str) -> Vec<u8> {
