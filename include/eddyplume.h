@@ -25,7 +25,7 @@ extern "C" {
 /*
  * The answer, alike in every call: answer[0] the number, answer[1] the position, answer[2] the length.
  *
- * Number 0: accepted; the position is 0, and the length is that of the stream (0 where no stream is written). Any other number is a
+ * Number 0: accepted; the position is 0, and the length is that of the stream (0 where none is written or measured). Any other number is a
  * refusal: its length is 0, and no byte of an output, work buffer or digest is written.
  *
  *    1  data set over 1,048,576 bytes
@@ -71,6 +71,9 @@ extern "C" {
 void eddyplume_list_stream(const uint8_t *list, size_t list_len, const uint8_t *data, size_t data_len,
                            uint8_t *out, size_t out_len, uint64_t answer[3]);
 
+/* List mode: the answer of eddyplume_list_stream with room enough, so that its length is the room the stream needs. No stream is written. */
+void eddyplume_list_measure(const uint8_t *list, size_t list_len, const uint8_t *data, size_t data_len, uint64_t answer[3]);
+
 /*
  * List mode: whether the SHA-256 digest of the stream is the expected one.
  *
@@ -91,6 +94,10 @@ void eddyplume_list_check(const uint8_t *list, size_t list_len, const uint8_t *d
  */
 void eddyplume_signature_stream(const uint8_t *uid, size_t uid_len, bool numbered, uint64_t number,
                                 const uint8_t *data, size_t data_len, uint8_t *out, size_t out_len, uint64_t answer[3]);
+
+/* Signature mode: the answer of eddyplume_signature_stream with room enough, as in list mode. */
+void eddyplume_signature_measure(const uint8_t *uid, size_t uid_len, bool numbered, uint64_t number,
+                                 const uint8_t *data, size_t data_len, uint64_t answer[3]);
 
 /* Signature mode: whether the SHA-256 digest of the stream is the expected one. expected, work and verdict as in list mode. */
 void eddyplume_signature_check(const uint8_t *uid, size_t uid_len, bool numbered, uint64_t number,

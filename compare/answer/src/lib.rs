@@ -16,7 +16,7 @@ pub struct Answer {
 }
 
 impl Answer {
-    /// Accepted, with a stream of this length; 0 where no stream is written.
+    /// Accepted, with a stream of this length; 0 where none is written or measured.
     pub fn accepted(length: usize) -> Answer {
         Answer { number: 0, position: 0, length: length as u64 }
     }

@@ -17,15 +17,22 @@ pub fn calls(case: &Case, random: &mut Random) -> Vec<Call> {
         // No function of the archive reads alone, or takes a frame.
         Case::Read { .. } | Case::One { .. } | Case::Frame { .. } => Vec::new(),
         Case::Lookup { tag, data } => vec![call_lookup(data, *tag, random)],
-        Case::List { room, list, data } => vec![call_list_stream(*room, list, data, random)],
+        Case::List { room, list, data } => {
+            let [measure, stream] = call_list_measure(list, data, random);
+            vec![measure, stream, call_list_stream(*room, list, data, random)]
+        }
         Case::ListCheck { room, expected, list, data } => {
-            vec![call_list_check(*room, expected, list, data, random)]
+            let [measure, stream] = call_list_measure(list, data, random);
+            vec![measure, stream, call_list_check(*room, expected, list, data, random)]
         }
         Case::Signature { room, uid, which, data } => {
-            vec![call_signature_stream(*room, uid, *which, data, random)]
+            let [measure, stream] = call_signature_measure(uid, *which, data, random);
+            vec![measure, stream, call_signature_stream(*room, uid, *which, data, random)]
         }
         Case::SignatureCheck { room, expected, uid, which, data } => {
-            vec![call_signature_check(*room, expected, uid, *which, data, random)]
+            let [measure, stream] = call_signature_measure(uid, *which, data, random);
+            let check = call_signature_check(*room, expected, uid, *which, data, random);
+            vec![measure, stream, check]
         }
         Case::Digest { parts } => call_digest(parts, random),
         Case::Feed { state, bytes } => vec![call_feed(state, bytes, random)],
@@ -57,6 +64,15 @@ fn call_list_stream(room: usize, list: &[u8], data: &[u8], random: &mut Random) 
     })
 }
 
+/// Measures, then calls for the stream with just the room measured.
+fn call_list_measure(list: &[u8], data: &[u8], random: &mut Random) -> [Call; 2] {
+    let wanted = list_mode::measure(data, list);
+    let measure = measure_call(Function::ListMeasure, wanted, random, |answer| {
+        eddyplume::list_measure(list, data, answer)
+    });
+    as_measured(measure, call_list_stream(wanted.length as usize, list, data, random))
+}
+
 fn call_list_check(
     room: usize,
     expected: &Expected,
@@ -83,6 +99,21 @@ fn call_signature_stream(
     stream_call(Function::SignatureStream, room, &wanted, random, |out, answer| {
         eddyplume::signature_stream(uid, number, data, out, answer)
     })
+}
+
+/// Measures, then calls for the stream with just the room measured.
+fn call_signature_measure(
+    uid: &[u8],
+    which: Option<usize>,
+    data: &[u8],
+    random: &mut Random,
+) -> [Call; 2] {
+    let wanted = signature_mode::measure(data, uid, which);
+    let number = which.map(|which| which as u64);
+    let measure = measure_call(Function::SignatureMeasure, wanted, random, |answer| {
+        eddyplume::signature_measure(uid, number, data, answer)
+    });
+    as_measured(measure, call_signature_stream(wanted.length as usize, uid, which, data, random))
 }
 
 fn call_signature_check(
@@ -115,6 +146,28 @@ fn stream_call(
     differences.answer(&answer, wanted.answer);
     differences.written("the output", &out, wanted.stream.as_deref());
     differences.call(function, &answer)
+}
+
+/// A measuring call, of either mode.
+fn measure_call(
+    function: Function,
+    wanted: Answer,
+    random: &mut Random,
+    call: impl FnOnce(&mut Answer),
+) -> Call {
+    let mut answer = any_answer(random);
+    call(answer.cell());
+    let mut differences = Differences::default();
+    differences.answer(&answer, wanted);
+    differences.call(function, &answer)
+}
+
+/// A call for the stream with just the room measured gives the answer that was measured.
+fn as_measured(measure: Call, mut stream: Call) -> [Call; 2] {
+    if stream.answer != measure.answer {
+        stream.differences.push(format!("{:?} was measured", measure.answer));
+    }
+    [measure, stream]
 }
 
 /// A check, of either mode.

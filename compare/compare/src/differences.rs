@@ -8,6 +8,7 @@ use independent::Answer;
 /// What one call of the archive gave, and in what it differs.
 pub struct Call {
     pub function: Function,
+    pub answer: Answer,
     pub outcomes: Vec<Outcome>,
     pub differences: Vec<String>,
 }
@@ -54,7 +55,8 @@ impl Differences {
 
     /// The call of `function` that gave this answer.
     pub fn call(self, function: Function, answer: &Guarded<Answer>) -> Call {
-        let outcomes = vec![Outcome::Number(answer.now()[0].number)];
-        Call { function, outcomes, differences: self.found }
+        let answer = answer.now()[0];
+        let outcomes = vec![Outcome::Number(answer.number)];
+        Call { function, answer, outcomes, differences: self.found }
     }
 }

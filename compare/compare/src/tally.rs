@@ -6,8 +6,10 @@ use std::collections::{BTreeMap, BTreeSet};
 #[derive(Clone, Copy, Debug, PartialEq, Eq, PartialOrd, Ord)]
 pub enum Function {
     ListStream,
+    ListMeasure,
     ListCheck,
     SignatureStream,
+    SignatureMeasure,
     SignatureCheck,
     Lookup,
     Sha256,
@@ -16,10 +18,12 @@ pub enum Function {
 }
 
 impl Function {
-    const ALL: [Function; 8] = [
+    const ALL: [Function; 10] = [
         Function::ListStream,
+        Function::ListMeasure,
         Function::ListCheck,
         Function::SignatureStream,
+        Function::SignatureMeasure,
         Function::SignatureCheck,
         Function::Lookup,
         Function::Sha256,
@@ -30,8 +34,10 @@ impl Function {
     pub fn name(self) -> &'static str {
         match self {
             Function::ListStream => "list_stream",
+            Function::ListMeasure => "list_measure",
             Function::ListCheck => "list_check",
             Function::SignatureStream => "signature_stream",
+            Function::SignatureMeasure => "signature_measure",
             Function::SignatureCheck => "signature_check",
             Function::Lookup => "lookup",
             Function::Sha256 => "sha256",
@@ -40,13 +46,15 @@ impl Function {
         }
     }
 
-    /// Everything that the function can say: 24 is the program's, and no
-    /// message is long enough for 25 from `sha256`.
+    /// Everything that the function can say: 24 is the program's, what measures needs
+    /// no room (16), and no message is long enough for 25 from `sha256`.
     fn outcomes(self) -> Vec<Outcome> {
         let (numbers, said): (Vec<u64>, &[&'static str]) = match self {
             Function::ListStream => ((0..=8).chain(10..=16).collect(), &[]),
+            Function::ListMeasure => ((0..=8).chain(10..=15).collect(), &[]),
             Function::ListCheck => ((0..=16).collect(), &["same", "differs"]),
             Function::SignatureStream => ((0..=8).chain(10..=16).chain(18..=23).collect(), &[]),
+            Function::SignatureMeasure => ((0..=8).chain(10..=15).chain(18..=23).collect(), &[]),
             Function::SignatureCheck => ((0..=16).chain(18..=23).collect(), &["same", "differs"]),
             Function::Lookup => ((0..=8).collect(), &["present", "absent"]),
             Function::Sha256 => (vec![0], &[]),
@@ -133,7 +141,7 @@ impl Tally {
 
 /// A line of the table: its name, and a cell for each function.
 fn row(name: &str, cell: impl Fn(Function) -> String) -> String {
-    let cells = Function::ALL.into_iter().map(|function| format!(" {:>16}", cell(function)));
+    let cells = Function::ALL.into_iter().map(|function| format!(" {:>17}", cell(function)));
     format!("{name:>8}{}\n", cells.collect::<String>())
 }
 

@@ -9,6 +9,11 @@ functions! {
         list: &[u8], data: &[u8], out: &mut [u8], answer: &mut Answer
     );
 
+    /// The answer of `list_stream` with room enough.
+    pub fn list_measure = eddyplume_list_measure(
+        list: &[u8], data: &[u8], answer: &mut Answer
+    );
+
     /// Whether the stream of `list` in `data` has the digest `expected`; `verdict` is the
     /// code of a `Verdict`.
     pub fn list_check = eddyplume_list_check(
@@ -21,6 +26,11 @@ functions! {
     /// from 0. Where no number is given, 0 is taken."
     pub fn signature_stream = eddyplume_signature_stream(
         uid: &[u8], number: Option<u64>, data: &[u8], out: &mut [u8], answer: &mut Answer
+    );
+
+    /// The answer of `signature_stream` with room enough.
+    pub fn signature_measure = eddyplume_signature_measure(
+        uid: &[u8], number: Option<u64>, data: &[u8], answer: &mut Answer
     );
 
     /// Whether the stream of a signature in `data` has the digest `expected`.

@@ -1,8 +1,8 @@
 //! Examples of docs/RULES.md and a published digest through the wrapper.
 
 use eddyplume::{
-    digest_feed, digest_finish, digest_start, list_check, list_stream, lookup, sha256,
-    signature_check, signature_stream, written, Answer, Verdict,
+    digest_feed, digest_finish, digest_start, list_check, list_measure, list_stream, lookup,
+    sha256, signature_check, signature_measure, signature_stream, written, Answer, Verdict,
 };
 
 const A: &[u8] = &[0x08, 0x00, 0x60, 0x00, 0x43, 0x53, 0x02, 0x00, 0x43, 0x54];
@@ -14,6 +14,10 @@ const DIGEST_OF_ABC: [u8; 32] = [
     0xba, 0x78, 0x16, 0xbf, 0x8f, 0x01, 0xcf, 0xea, 0x41, 0x41, 0x40, 0xde, 0x5d, 0xae, 0x22, 0x23,
     0xb0, 0x03, 0x61, 0xa3, 0x96, 0x17, 0x7a, 0x9c, 0xb4, 0x10, 0xff, 0x61, 0xf2, 0x00, 0x15, 0xad,
 ];
+
+fn measured(list: &[u8], data: &[u8]) -> Answer {
+    written(|answer| list_measure(list, data, answer))
+}
 
 fn streamed(list: &[u8], data: &[u8], out: &mut [u8]) -> Answer {
     written(|answer| list_stream(list, data, out, answer))
@@ -28,6 +32,8 @@ fn list_mode() {
     assert_eq!(streamed(&[0x08, 0x00, 0x61, 0x00], &data, &mut out), Answer::refused_at(13, 0));
     assert_eq!(streamed(LIST, &[B, A].concat(), &mut out), Answer::refused_at(4, 10));
     assert_eq!(streamed(LIST, &data, &mut out[..9]), Answer::refused(16));
+    assert_eq!(measured(LIST, &data), Answer::accepted(10));
+    assert_eq!(measured(LIST, &[B, A].concat()), Answer::refused_at(4, 10));
     assert_eq!(streamed(&[], &[], &mut []), Answer::refused(10));
 
     let (mut digest, _) = written(|(digest, answer)| sha256(A, digest, answer));
@@ -43,6 +49,8 @@ fn list_mode() {
 #[test]
 fn signature_mode_without_a_signature() {
     let answer = written(|answer| signature_stream(b"1.2", None, A, &mut [], answer));
+    assert_eq!(answer, Answer::refused(18));
+    let answer = written(|answer| signature_measure(b"1.2", None, A, answer));
     assert_eq!(answer, Answer::refused(18));
     let checked = written(|(answer, verdict)| {
         signature_check(b"1.2", Some(u64::MAX), A, &[0; 32], &mut [], answer, verdict)

@@ -9,9 +9,15 @@ fn null_pointers_are_empty_buffers() {
     unsafe {
         eddyplume_list_stream(null(), 0, null(), 0, null_mut(), 0, &mut answer);
         assert_eq!(answer, Answer::refused(10));
+        answer = Answer::refused(99);
+        eddyplume_list_measure(null(), 0, null(), 0, &mut answer);
+        assert_eq!(answer, Answer::refused(10));
         eddyplume_list_check(null(), 0, null(), 0, null(), 0, null_mut(), 0, &mut answer, &mut verdict);
         assert_eq!((answer, verdict), (Answer::refused(10), [0]));
         eddyplume_signature_stream(null(), 0, false, 0, null(), 0, null_mut(), 0, &mut answer);
+        assert_eq!(answer, Answer::refused(18));
+        answer = Answer::refused(99);
+        eddyplume_signature_measure(null(), 0, true, 7, null(), 0, &mut answer);
         assert_eq!(answer, Answer::refused(18));
         eddyplume_signature_check(null(), 0, true, 7, null(), 0, null(), 0, null_mut(), 0, &mut answer, &mut verdict);
         assert_eq!((answer, verdict), (Answer::refused(18), [0]));

@@ -10,6 +10,11 @@ pub fn stream(data: &[u8], list: &[u8], room: usize) -> Streamed {
     Streamed::from_result(run(data, list, None, room))
 }
 
+/// The answer of `stream` with room enough.
+pub fn measure(data: &[u8], list: &[u8]) -> Answer {
+    stream(data, list, usize::MAX).answer
+}
+
 /// The check of `expected`, with a work buffer of `room` bytes.
 pub fn check(data: &[u8], list: &[u8], expected: &[u8], room: usize) -> Checked {
     Checked::from_result(run(data, list, Some(expected), room), expected)

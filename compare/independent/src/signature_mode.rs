@@ -27,6 +27,11 @@ pub fn stream(data: &[u8], uid: &[u8], which: Option<usize>, room: usize) -> Str
     Streamed::from_result(run(data, uid, which, None, room))
 }
 
+/// The answer of `stream` with room enough.
+pub fn measure(data: &[u8], uid: &[u8], which: Option<usize>) -> Answer {
+    stream(data, uid, which, usize::MAX).answer
+}
+
 /// The check of `expected`, with a work buffer of `room` bytes.
 pub fn check(
     data: &[u8],

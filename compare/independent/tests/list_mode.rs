@@ -58,6 +58,17 @@ fn numbers_9_and_16_and_the_order() {
 }
 
 #[test]
+fn measured_as_streamed_with_room_enough() {
+    let l = tag(0x0008_0060);
+    assert_eq!(list_mode::measure(&join(&[&A, &B]), &l), Answer::accepted(10));
+    // RULES 15.8: a stream of 26 bytes
+    assert_eq!(list_mode::measure(&long(SQ, "SQ", &item(&S)), &list(&[SQ])), Answer::accepted(26));
+    assert_eq!(list_mode::measure(&A, &[]), Answer::refused(10));
+    assert_eq!(list_mode::measure(&join(&[&B, &A]), &l), Answer::refused_at(4, 10));
+    assert_eq!(list_mode::measure(&A, &list(&[0x0008_0060, 0x0008_0061])), Answer::refused_at(13, 1));
+}
+
+#[test]
 fn verdicts() {
     let l = tag(0x0008_0060);
     let differs = list_mode::check(&A, &l, &[0; 32], 10);

@@ -105,6 +105,8 @@ fn stream_and_check() {
     let streamed = signature_mode::stream(&data, UID, None, expected.len());
     assert_eq!(streamed.answer, Answer::accepted(expected.len()));
     assert_eq!(streamed.stream.unwrap(), expected);
+    assert_eq!(signature_mode::measure(&data, UID, None), Answer::accepted(expected.len()));
+    assert_eq!(signature_mode::measure(&data, UID, Some(1)), Answer::refused(18));
     assert_eq!(signature_mode::stream(&data, UID, Some(0), expected.len() - 1).answer.number, 16);
     assert_eq!(signature_mode::stream(&data, UID, Some(1), expected.len()).answer.number, 18);
     let same = signature_mode::check(&data, UID, None, &sha256(&expected), expected.len());
