@@ -13,18 +13,18 @@ use Rattle.answer.specs.declared.Answer.{Answer}
 use Rattle.answer.specs.Answer as answer
 use Rattle.dataset.specs.Tree.{Element, Elements}
 use Rattle.dataset.specs.Lookup.{elementOf, foundOf, foundIn, found}
-use Rattle.dataset.proofs.LookupSteps.{found-inside}
+use Rattle.dataset.proofs.laws.lookup.FindLoop.{found-inside}
 use Rattle.dataset.specs.Reading.{Reading, fault, read, One, ended, element, explicit, elementsAt, itemsAt, fragmentsAt, oneAt, sizeLimit, levels, dataSet, answerOf, WellFormed}
 use Rattle.dataset.specs.Theorems.{EvenLength, Refusal, FaultsInExtents, ValueInside, Theorems}
-use Rattle.dataset.proofs.Bounded.{explicit-bounded}
-use Rattle.dataset.proofs.Within.{Within, FaultIn, OneIn, fragments-within, elements-within, items-within, one-in}
-use Rattle.dataset.proofs.Unfolding.{elements-enough, items-enough, fragments-enough, elements-are, items-are, fragments-are}
-use Rattle.dataset.proofs.Steps.{data-set-is, data-set-over}
-use Rattle.dataset.proofs.Guarantees.{data-set-read}
-use Rattle.dataset.proofs.Filled.{filled-is-read}
-use Rattle.dataset.proofs.FirstFault.{first-fault}
-use Rattle.dataset.proofs.Order.{elements-end}
-use Rattle.dataset.proofs.Levels.{levels-count}
+use Rattle.dataset.proofs.laws.reading.Bounded.{explicit-bounded}
+use Rattle.dataset.proofs.laws.reading.Within.{Within, FaultIn, OneIn, fragments-within, elements-within, items-within, one-in}
+use Rattle.dataset.proofs.laws.reading.Unfolding.{elements-enough, items-enough, fragments-enough, elements-are, items-are, fragments-are}
+use Rattle.dataset.proofs.laws.reading.Loops.{data-set-is, data-set-over}
+use Rattle.dataset.proofs.laws.reading.Guarantees.{data-set-read}
+use Rattle.dataset.proofs.laws.reading.Filled.{filled-is-read}
+use Rattle.dataset.proofs.laws.reading.FirstFault.{first-fault}
+use Rattle.dataset.proofs.laws.reading.Order.{elements-end}
+use Rattle.dataset.proofs.laws.reading.Levels.{levels-count}
 
 within-fault : {A : Type 0} (lo hi : ℕ) (p : Reading A) (f : Answer) → Within lo hi p → p ≡ fault f → FaultIn lo hi f
 within-fault lo hi (fault g) f w e = let q : g ≡ f = cc in rw (← q) w

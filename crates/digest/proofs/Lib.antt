@@ -1,11 +1,2 @@
-pub mod Tables
-pub mod Rounds
-pub mod Constants
-pub mod Chain
-pub mod Zeros
-pub mod Padded
-pub mod Steps
-pub mod Feeding
-pub mod Answers
-pub mod Calls
+pub mod laws
 pub mod Theorems

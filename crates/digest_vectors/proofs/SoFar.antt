@@ -13,7 +13,7 @@ use Rattle.digest.specs.declared.running.Running.{Running}
 use Rattle.digest.specs.declared.running.Fed.{Fed}
 use Rattle.digest.specs.declared.running.Finished.{Finished}
 use Rattle.digest.specs.declared.message.Hashed.{Hashed}
-use Rattle.digest.proofs.Calls.{start-fed, part-taken, part-refused, parts-finished}
+use Rattle.digest.proofs.laws.running.CallsInTurn.{start-fed, part-taken, part-refused, parts-finished}
 
 -- the first `at` bytes of m were fed, one part after the other
 pub record SoFar (m : List ℕ) (s : Running) (at : ℕ) : Type 0 where

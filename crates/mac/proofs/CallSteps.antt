@@ -11,7 +11,7 @@ use borrow.Author.Tests.{ne-eqb}
 use Rattle.answer.specs.declared.Answer.{Answer}
 use Rattle.slices.specs.If.{if_then_else_}
 use Rattle.answer.specs.Answer.{accepted, refused, _orElse_}
-use Rattle.answer.proofs.Chain.{both-accepted}
+use Rattle.answer.proofs.laws.Chain.{both-accepted}
 use Rattle.dataset.specs.Tree.{Elements}
 use Rattle.dataset.specs.Reading.{fault, read, sizeLimit}
 use Rattle.mac.specs.TagList.{tagsIn, badSize, ascendingAnswer, unbarredAnswer, listAnswer}

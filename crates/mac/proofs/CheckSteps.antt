@@ -25,7 +25,7 @@ use Rattle.mac.specs.Inner.Calls.{CallAnswered}
 use Rattle.mac.specs.declared.verdict.Verdict.{Verdict}
 use Rattle.mac.specs.declared.verdict.Verdict.the-variants as verdict
 use Rattle.mac.specs.declared.verdict.Checked.{Checked}
-use Rattle.slices.proofs.Parts.{drop-one}
+use Rattle.slices.proofs.laws.Parts.{drop-one}
 
 -- ---- the verdict
 module _ (digest expected : List ℕ) (b : Bool) (e : b ≡ sameBytes digest expected) where

@@ -20,7 +20,7 @@ use Rattle.dataset.specs.Tree.{Span, span, Element, value, sequence, fragments,
 use Rattle.dataset.specs.Reading.{Reading, fault, read, _>>=_, One, ended, element, explicit, byHeader, itemsAt, fragmentsAt, oneAt}
 use Rattle.dataset.specs.declared.header.ElementHeader.{ElementHeader}
 use Rattle.dataset.specs.declared.header.ElementHeader.the-variants as header
-use Rattle.dataset.proofs.Bounds.{ElementFacts, value-start, element-facts}
+use Rattle.dataset.proofs.laws.header.HeaderFacts.{ElementFacts, value-start, element-facts}
 use Rattle.mac.specs.Stream.{streamOf, itemsStream, fragmentsStream}
 use Rattle.mac.specs.UN.{isUN, holdsUN, itemsHoldUN}
 use Rattle.mac.specs.Inner.Keep.{keeps, keepsHeader, every}
@@ -29,8 +29,8 @@ use Rattle.mac.specs.declared.keep.Keep.{Keep}
 use Rattle.mac.specs.declared.writer.Written.{Written}
 use Rattle.mac.specs.declared.writer.OneWritten.{OneWritten}
 use Rattle.mac.specs.declared.writer.OneWritten.the-variants as one
-use Rattle.slices.proofs.Parts.{length-between}
-use Rattle.slices.proofs.Writing.{sets-append}
+use Rattle.slices.proofs.laws.Parts.{length-between}
+use Rattle.slices.proofs.laws.Writing.{sets-append}
 
 -- ---- an element that holds what the reading p gives: its header's eight bytes, and then the stream of p
 pub record Holds {A : Type 0} (unknown : A → Bool) (stream : A → List ℕ → List ℕ) (d : List ℕ) (tag : ℕ) (bytes : List ℕ) (e : Element) (a : A) : Type 0 where

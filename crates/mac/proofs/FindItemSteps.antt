@@ -19,8 +19,8 @@ use Rattle.dataset.specs.declared.extent.ItemIn.the-variants as item
 use Rattle.dataset.specs.declared.seek.Place.{Place}
 use Rattle.dataset.specs.declared.seek.Sought.{Sought}
 use Rattle.dataset.specs.declared.seek.Sought.the-variants as sought
-use Rattle.dataset.proofs.ItemsFrom.{itemsFrom, items-refused, items-end, item-lies, items-are-one, item-past}
-use Rattle.dataset.proofs.Places.{IsSought, sought-past, sought-refused, placed-lies}
+use Rattle.dataset.proofs.laws.extent.ItemsFrom.{itemsFrom, items-refused, items-end, item-lies, items-are-one, item-past}
+use Rattle.dataset.proofs.laws.seek.Places.{IsSought, sought-past, sought-refused, placed-lies}
 use Rattle.mac.specs.Selection.{firstItem}
 use Rattle.mac.specs.Inner.Selection.{hasKey, TestsKey, ItemFound, FoundItemIn}
 use Rattle.mac.specs.declared.selection.ItemKey.{ItemKey}

@@ -8,7 +8,7 @@ use native.Mathlib.Omega.{arith}
 use borrow.Author.Tests.{eq-eqb, ne-eqb}
 use Rattle.slices.specs.If.{if_then_else_}
 use Rattle.dataset.specs.Tree.{Element, Elements, none, and, tagOf}
-use Rattle.dataset.proofs.Lies.{ElementsLie}
+use Rattle.dataset.proofs.laws.reading.Lies.{ElementsLie}
 use Rattle.dataset.specs.Lookup.{elementOf}
 
 pub find-past : (wanted : ℕ) (e : Element) (es : Elements) → tagOf e < wanted → elementOf wanted (and e es) ≡ elementOf wanted es

@@ -16,14 +16,14 @@ use Rattle.dataset.specs.Tree.{Span, span}
 use Rattle.dataset.specs.Reading.{fault, explicit, byFragment, fragmentsAt}
 use Rattle.dataset.specs.declared.header.ItemHeader.{ItemHeader}
 use Rattle.dataset.specs.declared.header.ItemHeader.the-variants as place
-use Rattle.dataset.proofs.Bounds.{ItemFacts, item-facts}
-use Rattle.dataset.proofs.Bounded.{explicit-bounded}
-use Rattle.dataset.proofs.Unfolding.{fragments-are}
+use Rattle.dataset.proofs.laws.header.HeaderFacts.{ItemFacts, item-facts}
+use Rattle.dataset.proofs.laws.reading.Bounded.{explicit-bounded}
+use Rattle.dataset.proofs.laws.reading.Unfolding.{fragments-are}
 use Rattle.mac.specs.Stream.{itemTagBytes, sequenceDelimiterBytes, fragmentsStream}
 use Rattle.mac.specs.Inner.Writer.{walked, holdsNone, Walk}
 use Rattle.mac.specs.declared.writer.Written.the-variants as written
-use Rattle.slices.proofs.Parts.{length-between}
-use Rattle.slices.proofs.Writing.{two-runs}
+use Rattle.slices.proofs.laws.Parts.{length-between}
+use Rattle.slices.proofs.laws.Writing.{two-runs}
 use Rattle.mac.proofs.Walks.{Front, Going, start, go-on, stop-at, done}
 
 -- an item tag and the bytes of a fragment

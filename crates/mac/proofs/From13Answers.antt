@@ -9,7 +9,7 @@ use lib.Dec.{ltb}
 use lib.ListN.{length}
 use Rattle.slices.specs.If.{if_then_else_}
 use Rattle.answer.specs.Answer.{accepted}
-use Rattle.answer.proofs.Chain.{or-else-second, both-accepted, passed}
+use Rattle.answer.proofs.laws.Chain.{or-else-second, both-accepted, passed}
 use Rattle.dataset.specs.Tree.{Elements}
 use Rattle.mac.specs.Modes.{tagsAnswer, badDigestLength, answerFrom13}
 

@@ -13,7 +13,7 @@ use lib.Dec.{eqb}
 use Rattle.answer.specs.declared.Answer.{Answer}
 use Rattle.slices.specs.If.{if_then_else_}
 use Rattle.answer.specs.Answer.{accepted, refused, _orElse_}
-use Rattle.answer.proofs.Chain.{or-else-first, or-else-second, both-accepted}
+use Rattle.answer.proofs.laws.Chain.{or-else-first, or-else-second, both-accepted}
 use Rattle.dataset.specs.Tree.{Elements}
 use Rattle.dataset.specs.Reading.{Reading, fault, read}
 use Rattle.mac.specs.TagList.{tagsIn, listAnswer}

@@ -13,17 +13,17 @@ use Rattle.dataset.specs.Tree.{Elements, last, item}
 use Rattle.dataset.specs.Reading.{Reading, fault, read, _>>=_, explicit, byItem, elementsAt, itemsAt, deeper}
 use Rattle.dataset.specs.declared.header.ItemHeader.{ItemHeader}
 use Rattle.dataset.specs.declared.header.ItemHeader.the-variants as place
-use Rattle.dataset.proofs.Bounds.{ItemFacts, item-facts}
-use Rattle.dataset.proofs.Bounded.{explicit-bounded}
-use Rattle.dataset.proofs.Levels.{deeper-falls}
-use Rattle.dataset.proofs.Unfolding.{items-are}
-use Rattle.dataset.proofs.Guarantees.{holds-read, ElementsIn, elements-read}
+use Rattle.dataset.proofs.laws.header.HeaderFacts.{ItemFacts, item-facts}
+use Rattle.dataset.proofs.laws.reading.Bounded.{explicit-bounded}
+use Rattle.dataset.proofs.laws.reading.Levels.{deeper-falls}
+use Rattle.dataset.proofs.laws.reading.Unfolding.{items-are}
+use Rattle.dataset.proofs.laws.reading.Guarantees.{holds-read, ElementsIn, elements-read}
 use Rattle.mac.specs.Stream.{itemTagBytes, sequenceDelimiterBytes, elementsStream, itemsStream}
 use Rattle.mac.specs.UN.{elementsHoldUN, itemsHoldUN}
 use Rattle.mac.specs.Inner.Writer.{walked, Leaves, Walk}
 use Rattle.mac.specs.declared.writer.Written.{Written}
 use Rattle.mac.specs.declared.writer.Written.the-variants as written
-use Rattle.slices.proofs.Writing.{two-runs}
+use Rattle.slices.proofs.laws.Writing.{two-runs}
 use Rattle.mac.proofs.StreamLength.{elements-length}
 use Rattle.mac.proofs.Walks.{Front, Going, start, go-on, stop-at, done}
 

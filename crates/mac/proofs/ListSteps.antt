@@ -12,12 +12,12 @@ use Rattle.answer.specs.declared.Answer.{Answer}
 use Rattle.slices.specs.If.{if_then_else_}
 use Rattle.answer.specs.Answer.{accepted, refused, _orElse_}
 use Rattle.dataset.specs.Tree.{Element, Elements, none, tagOf}
-use Rattle.dataset.proofs.Lies.{ElementsLie}
+use Rattle.dataset.proofs.laws.reading.Lies.{ElementsLie}
 use Rattle.dataset.specs.Reading.{Reading, fault, read, _>>=_, element, explicit, byOne, elementsAt, oneAt}
 use Rattle.dataset.specs.Lookup.{elementOf}
-use Rattle.dataset.proofs.Bounded.{explicit-bounded}
-use Rattle.dataset.proofs.Within.{Within, elements-within}
-use Rattle.dataset.proofs.Guarantees.{holds-read, ElementsIn, elements-read}
+use Rattle.dataset.proofs.laws.reading.Bounded.{explicit-bounded}
+use Rattle.dataset.proofs.laws.reading.Within.{Within, elements-within}
+use Rattle.dataset.proofs.laws.reading.Guarantees.{holds-read, ElementsIn, elements-read}
 use Rattle.mac.specs.TagList.{tagsIn, ascendingAnswer}
 use Rattle.mac.specs.Stream.{streamOf, listedStream}
 use Rattle.mac.specs.UN.{isUN, holdsUN}

@@ -20,7 +20,7 @@ use Rattle.mac.specs.Stream.{streamOf, listedStream}
 use Rattle.mac.specs.UN.{isUN, holdsUN}
 use Rattle.mac.specs.Modes.{elementAnswer, tagsAnswer}
 use Rattle.mac.specs.Inner.Listed.{listedAnswer, ListedLeaves}
-use Rattle.slices.proofs.Writing.{sets-append}
+use Rattle.slices.proofs.laws.Writing.{sets-append}
 use Rattle.mac.proofs.Finding.{find-past, find-here}
 
 -- ---- tags in ascending order, from `least` on

@@ -10,9 +10,9 @@ use Rattle.answer.specs.declared.Answer.{Answer}
 use Rattle.slices.specs.If.{if_then_else_}
 use Rattle.dataset.specs.Tree.{Element, Elements, and, tagOf}
 use Rattle.dataset.specs.Reading.{Reading, fault, read, _>>=_, One, ended, element, explicit, byOne, elementsAt, oneAt}
-use Rattle.dataset.proofs.Bounded.{explicit-bounded}
-use Rattle.dataset.proofs.Unfolding.{elements-are}
-use Rattle.dataset.proofs.Guarantees.{holds-read, OneIs, ElementIn, one-read}
+use Rattle.dataset.proofs.laws.reading.Bounded.{explicit-bounded}
+use Rattle.dataset.proofs.laws.reading.Unfolding.{elements-are}
+use Rattle.dataset.proofs.laws.reading.Guarantees.{holds-read, OneIs, ElementIn, one-read}
 use Rattle.mac.specs.Stream.{streamOf}
 use Rattle.mac.specs.UN.{isUN, holdsUN}
 use Rattle.mac.specs.Inner.Writer.{oneStream, oneWalked, Leaves, Walk}

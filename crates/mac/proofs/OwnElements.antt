@@ -7,12 +7,12 @@ use native.Mathlib.Omega.{arith}
 use lib.ListN.{length, length-append}
 use Rattle.slices.specs.If.{if_then_else_}
 use Rattle.dataset.specs.Tree.{Element, Elements, tagOf}
-use Rattle.dataset.proofs.Lies.{ElementsLie}
+use Rattle.dataset.proofs.laws.reading.Lies.{ElementsLie}
 use Rattle.mac.specs.TagList.{barred, unlessBarred}
 use Rattle.mac.specs.Stream.{streamOf, elementsStream}
 use Rattle.mac.specs.UN.{isUN, holdsUN}
 use Rattle.mac.specs.SignatureMode.{named, leftOut, own}
-use Rattle.dataset.proofs.Bools.{neither}
+use Rattle.dataset.proofs.laws.Bools.{neither}
 use Rattle.mac.proofs.StreamLength.{elements-length}
 
 -- an element that is not left out

@@ -28,7 +28,7 @@ use Rattle.dataset.specs.declared.seek.Sought.the-variants as sought
 use Rattle.mac.specs.declared.selection.ItemKey.{ItemKey}
 use Rattle.mac.specs.declared.selection.FoundItem.{FoundItem}
 use Rattle.mac.specs.declared.selection.FoundItem.the-variants as found
-use Rattle.dataset.proofs.Places.{placed-lies}
+use Rattle.dataset.proofs.laws.seek.Places.{placed-lies}
 use Rattle.dataset.proofs.seek.Place as enum
 
 -- cases that cannot be

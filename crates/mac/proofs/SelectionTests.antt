@@ -24,8 +24,8 @@ use Rattle.dataset.specs.declared.seek.Place.{Place}
 use Rattle.dataset.specs.declared.seek.Place.the-variants as place
 use Rattle.mac.specs.declared.selection.ItemKey.{ItemKey}
 use Rattle.mac.specs.declared.selection.ItemKey.the-variants as key
-use Rattle.slices.proofs.Parts.{length-between, drop-one}
-use Rattle.slices.proofs.Comparing.{same-lengths}
+use Rattle.slices.proofs.laws.Parts.{length-between, drop-one}
+use Rattle.slices.proofs.laws.Comparing.{same-lengths}
 use Rattle.mac.proofs.PlaceValues.{NoValue, no-value, value-order, value-inside, value-at}
 
 -- ---- a test of the value in a place

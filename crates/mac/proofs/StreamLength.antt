@@ -7,8 +7,8 @@ use lib.ListN.{length, length-append, length-take}
 use Rattle.slices.specs.Lists.{between}
 use Rattle.dataset.specs.Reading.{deeper}
 use Rattle.dataset.specs.Tree.{Span, Element, value, sequence, fragments, Elements, none, and, Items, last, item, tagOf}
-use Rattle.dataset.proofs.Bounds.{value-start}
-use Rattle.dataset.proofs.Lies.{FragmentsLie, ElementLies, ElementsLie, ItemsLie}
+use Rattle.dataset.proofs.laws.header.HeaderFacts.{value-start}
+use Rattle.dataset.proofs.laws.reading.Lies.{FragmentsLie, ElementLies, ElementsLie, ItemsLie}
 use Rattle.mac.specs.TagList.{barred, unlessBarred}
 use Rattle.mac.specs.Stream.{itemTagBytes, fragmentsStream, streamOf, elementsStream, itemsStream}
 

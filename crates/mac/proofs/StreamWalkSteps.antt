@@ -11,12 +11,12 @@ use borrow.Author.Tests.{eqb-true, eqb-false}
 use lib.Dec.{eqb}
 use Rattle.answer.specs.declared.Answer.{Answer}
 use Rattle.answer.specs.Answer.{accepted, _orElse_}
-use Rattle.answer.proofs.Chain.{or-else-first, or-else-second, both-accepted}
+use Rattle.answer.proofs.laws.Chain.{or-else-first, or-else-second, both-accepted}
 use Rattle.dataset.specs.Tree.{Elements}
 use Rattle.dataset.specs.Reading.{Reading, fault, read, explicit, elementsAt, treeOf}
-use Rattle.dataset.proofs.Bounded.{explicit-bounded}
-use Rattle.dataset.proofs.Within.{Within, elements-within}
-use Rattle.dataset.proofs.Guarantees.{holds-read, ElementsIn, elements-read}
+use Rattle.dataset.proofs.laws.reading.Bounded.{explicit-bounded}
+use Rattle.dataset.proofs.laws.reading.Within.{Within, elements-within}
+use Rattle.dataset.proofs.laws.reading.Guarantees.{holds-read, ElementsIn, elements-read}
 use Rattle.mac.specs.TagList.{tagsIn}
 use Rattle.mac.specs.Stream.{listedStream}
 use Rattle.mac.specs.Modes.{tagsAnswer}
@@ -31,7 +31,7 @@ use Rattle.mac.specs.declared.modes.SignatureItem.{SignatureItem}
 use Rattle.mac.specs.declared.modes.SignatureItem.the-variants as signatureItem
 use Rattle.mac.specs.declared.writer.Written.{Written}
 use Rattle.mac.specs.declared.writer.Written.the-variants as written
-use Rattle.slices.proofs.Writing.{sets-append}
+use Rattle.slices.proofs.laws.Writing.{sets-append}
 use Rattle.mac.proofs.OwnElements.{own-no-longer}
 
 -- a fault of a data set in an extent has a number that is not 0

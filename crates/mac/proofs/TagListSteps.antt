@@ -16,7 +16,7 @@ use Rattle.answer.specs.Answer.{accepted, refused, _orElse_}
 use Rattle.dataset.specs.Bytes.{num16, tagAt, tagIn, tagCase}
 use Rattle.dataset.specs.declared.bytes.TagIn.{TagIn}
 use Rattle.dataset.specs.declared.bytes.TagIn.the-variants as tagEnum
-use Rattle.slices.proofs.Parts.{drop-one}
+use Rattle.slices.proofs.laws.Parts.{drop-one}
 use Rattle.mac.specs.TagList.{barred, tagsIn, badSize, ascendingAnswer, unbarredAnswer, listAnswer}
 
 -- ---- the tags from an index on

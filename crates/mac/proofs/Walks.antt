@@ -11,7 +11,7 @@ use Rattle.dataset.specs.Reading.{Reading, fault, read, _>>=_}
 use Rattle.mac.specs.Inner.Writer.{walked, Leaves, Walk}
 use Rattle.mac.specs.declared.writer.Written.{Written}
 use Rattle.mac.specs.declared.writer.Written.the-variants as written
-use Rattle.slices.proofs.Writing.{sets-append}
+use Rattle.slices.proofs.laws.Writing.{sets-append}
 
 -- UN was found before
 unfoldable pub withFound : Bool → Written → Written

@@ -1,5 +1,2 @@
-pub mod TextSteps
-pub mod FrameSteps
-pub mod Frames
-pub mod Fits
+pub mod laws
 pub mod Theorems

@@ -9,11 +9,11 @@ use borrow.Author.Tests.{eqb-true, le-ltb}
 use Rattle.slices.specs.If.{if_then_else_}
 use Rattle.answer.specs.declared.Answer.{Answer}
 use Rattle.answer.specs.Answer.{accepted, _orElse_}
-use Rattle.answer.proofs.Chain.{or-else-second, both-accepted}
+use Rattle.answer.proofs.laws.Chain.{or-else-second, both-accepted}
 use Rattle.dataset.specs.Tree.{Elements}
 use Rattle.dataset.specs.Reading.{Reading, sizeLimit, dataSet, answerOf, treeOf, tree}
 use Rattle.dataset.proofs.Theorems.{faults-inside}
-use Rattle.dataset.proofs.Guarantees.{data-set-read}
+use Rattle.dataset.proofs.laws.reading.Guarantees.{data-set-read}
 use Rattle.mac.specs.TagList.{tagsIn, listAnswer}
 use Rattle.mac.specs.Modes.{answerFrom13}
 use Rattle.mac.specs.Result.{isAccepted}

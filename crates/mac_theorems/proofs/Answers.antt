@@ -14,15 +14,15 @@ use borrow.Author.Tests.{ltb-true, ltb-false}
 use Rattle.answer.specs.declared.Answer.{Answer}
 use Rattle.slices.specs.If.{if_then_else_}
 use Rattle.answer.specs.Answer.{accepted, refused, _orElse_}
-use Rattle.answer.proofs.Refusals.{position-kept, position-none}
-use Rattle.answer.proofs.Chain.{or-else-holds}
+use Rattle.answer.proofs.laws.Refusals.{position-kept, position-none}
+use Rattle.answer.proofs.laws.Chain.{or-else-holds}
 use Rattle.dataset.specs.Tree.{Element, Elements}
 use Rattle.dataset.specs.Reading.{Reading, fault, read, explicit, elementsAt, sizeLimit, levels, dataSet, answerOf, tree}
 use Rattle.dataset.specs.Lookup.{elementOf}
-use Rattle.dataset.proofs.Bools.{choose}
-use Rattle.dataset.proofs.Bounded.{explicit-bounded}
-use Rattle.dataset.proofs.Within.{Within, elements-within}
-use Rattle.dataset.proofs.Steps.{data-set-is, data-set-over}
+use Rattle.dataset.proofs.laws.Bools.{choose}
+use Rattle.dataset.proofs.laws.reading.Bounded.{explicit-bounded}
+use Rattle.dataset.proofs.laws.reading.Within.{Within, elements-within}
+use Rattle.dataset.proofs.laws.reading.Loops.{data-set-is, data-set-over}
 use Rattle.mac.specs.TagList.{tagsIn, barred, ascendingAnswer, unbarredAnswer, badSize, listAnswer}
 use Rattle.mac.specs.UN.{isUN, holdsUN}
 use Rattle.mac.specs.Modes.{elementAnswer, tagsAnswer, badDigestLength, answerFrom13}

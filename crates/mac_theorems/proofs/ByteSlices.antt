@@ -6,7 +6,7 @@ use native.Mathlib.Omega.{arith}
 use lib.ListN.{length, getD}
 use Rattle.dataset.specs.Bytes.{num16, num32, tagAt, vrAt}
 use Rattle.slices.specs.Lists.{between, OfBytes}
-use Rattle.slices.proofs.Parts.{drop-one}
+use Rattle.slices.proofs.laws.Parts.{drop-one}
 
 -- the two and the four bytes of a number, low byte first
 abbrev pub bytes16 : ℕ → List ℕ

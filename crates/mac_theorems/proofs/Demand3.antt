@@ -13,7 +13,7 @@ use borrow.Author.Tests.{eqb-true, eqb-false, eq-eqb}
 use Rattle.answer.specs.declared.Answer.{Answer}
 use Rattle.slices.specs.If.{if_then_else_}
 use Rattle.answer.specs.Answer.{_orElse_}
-use Rattle.dataset.proofs.Guarantees.{DataSetIs, data-set-read}
+use Rattle.dataset.proofs.laws.reading.Guarantees.{DataSetIs, data-set-read}
 use Rattle.digest.specs.Message.{digestOf}
 use Rattle.digest.specs.Sha256.{sha256}
 use Rattle.slices.specs.Lists.{OfBytes}

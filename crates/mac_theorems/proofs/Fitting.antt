@@ -9,11 +9,11 @@ use Rattle.dataset.specs.Bytes.{tagAt}
 use Rattle.slices.specs.Lists.{between, OfBytes}
 use Rattle.dataset.specs.Tree.{Element, Elements, Items, tagOf}
 use Rattle.dataset.specs.Order.{Tagged}
-use Rattle.dataset.proofs.Lies.{ElementLies, ElementsLie, ItemsLie}
+use Rattle.dataset.proofs.laws.reading.Lies.{ElementLies, ElementsLie, ItemsLie}
 use Rattle.dataset.specs.Reading.{sizeLimit, deeper}
 use Rattle.mac.specs.TagList.{barred, unlessBarred}
 use Rattle.mac.specs.Content.{SignedElement, SignedElements, signed, signedElements, signedItems}
-use Rattle.slices.proofs.Parts.{length-between}
+use Rattle.slices.proofs.laws.Parts.{length-between}
 use Rattle.mac_theorems.proofs.ByteSlices.{small16}
 use Rattle.mac_theorems.proofs.Encoding.{isShort, SizedAs, sized-as}
 use Rattle.mac_theorems.proofs.Injective.{TagFits, LengthFits, Fits, ElementsFit, ItemsFit}

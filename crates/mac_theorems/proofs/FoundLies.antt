@@ -9,9 +9,9 @@ use lib.Dec.{eqb}
 use borrow.Author.Tests.{eqb-true}
 use Rattle.slices.specs.If.{if_then_else_}
 use Rattle.dataset.specs.Tree.{Element, Elements, tagOf}
-use Rattle.dataset.proofs.Lies.{ElementLies, ElementsLie}
+use Rattle.dataset.proofs.laws.reading.Lies.{ElementLies, ElementsLie}
 use Rattle.dataset.specs.Lookup.{elementOf}
-use Rattle.dataset.proofs.Order.{element-ends}
+use Rattle.dataset.proofs.laws.reading.Order.{element-ends}
 use Rattle.mac.proofs.Finding.{find-past}
 
 -- the element e of the tag, from `from` to `mid`, and the elements after it

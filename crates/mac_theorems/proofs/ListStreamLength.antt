@@ -11,13 +11,13 @@ use lib.ListN.{length, length-append}
 use borrow.Author.Tests.{ltb-false}
 use Rattle.slices.specs.If.{if_then_else_}
 use Rattle.answer.specs.Answer.{refused}
-use Rattle.answer.proofs.Chain.{BothAccepted, both-accepted}
+use Rattle.answer.proofs.laws.Chain.{BothAccepted, both-accepted}
 use Rattle.dataset.specs.Tree.{Element, Elements}
-use Rattle.dataset.proofs.Lies.{ElementsLie}
+use Rattle.dataset.proofs.laws.reading.Lies.{ElementsLie}
 use Rattle.dataset.specs.Reading.{Reading, levels, dataSet, treeOf}
 use Rattle.dataset.specs.Lookup.{elementOf}
-use Rattle.dataset.proofs.Guarantees.{data-set-read}
-use Rattle.dataset.proofs.Order.{elements-end}
+use Rattle.dataset.proofs.laws.reading.Guarantees.{data-set-read}
+use Rattle.dataset.proofs.laws.reading.Order.{elements-end}
 use Rattle.mac.specs.TagList.{tagsIn, ascendingAnswer, unbarredAnswer, listAnswer}
 use Rattle.mac.specs.Stream.{streamOf, foundStream, listedStream}
 use Rattle.mac.specs.ListMode.{Call, stream}

@@ -9,14 +9,14 @@ use lib.Dec.{eqb}
 use Rattle.answer.specs.Answer.{_orElse_}
 use Rattle.dataset.specs.Vr.{SQ, OB, UN}
 use Rattle.dataset.specs.Tree.{Element, Elements, vrOf}
-use Rattle.dataset.proofs.Lies.{ElementsLie}
+use Rattle.dataset.proofs.laws.reading.Lies.{ElementsLie}
 use Rattle.dataset.specs.Lookup.{elementOf}
 use Rattle.mac.specs.Content.{SignedElement, SignedElements, signed, joined, content}
 use Rattle.mac.specs.Stream.{foundStream, listedStream}
 use Rattle.mac.specs.UN.{isUN, holdsUN}
 use Rattle.mac.specs.Modes.{elementAnswer, tagsAnswer}
 use Rattle.mac_theorems.specs.Demand3.{foundHoldsUN, listedHoldUN}
-use Rattle.dataset.proofs.Bools.{neither}
+use Rattle.dataset.proofs.laws.Bools.{neither}
 use Rattle.mac_theorems.proofs.Encoding.{encodeElements, element-encoded}
 use Rattle.mac_theorems.proofs.Injective.{ElementsFit}
 use Rattle.mac_theorems.proofs.Fitting.{WithinSize, element-fits}

@@ -11,10 +11,10 @@ use lib.ListN.{length}
 use Rattle.slices.specs.If.{if_then_else_}
 use Rattle.answer.specs.declared.Answer.{Answer}
 use Rattle.answer.specs.Answer.{accepted, refused, _orElse_}
-use Rattle.answer.proofs.Chain.{or-else-same}
+use Rattle.answer.proofs.laws.Chain.{or-else-same}
 use Rattle.dataset.specs.Tree.{Element, Elements, Items, tagOf}
 use Rattle.dataset.specs.Reading.{sizeLimit, dataSet, answerOf, tree}
-use Rattle.dataset.proofs.Bools.{neither}
+use Rattle.dataset.proofs.laws.Bools.{neither}
 use Rattle.mac.specs.TagList.{barred, unlessBarred, tagsIn, listAnswer}
 use Rattle.mac.specs.Content.{SignedElement, SignedElements, signed, signedElements, signedItems, joined, content}
 use Rattle.mac.specs.UN.{isUN, holdsUN, elementsHoldUN, itemsHoldUN}

@@ -8,7 +8,7 @@ use native.Mathlib.Omega.{arith}
 use lib.ListN.{length}
 use borrow.Author.Tests.{eqb-true, ltb-false}
 use Rattle.answer.specs.Answer.{accepted}
-use Rattle.answer.proofs.Chain.{or-else-second, both-accepted}
+use Rattle.answer.proofs.laws.Chain.{or-else-second, both-accepted}
 use Rattle.dataset.specs.Tree.{Elements}
 use Rattle.dataset.specs.Reading.{Reading, dataSet, answerOf, tree}
 use Rattle.mac.specs.TagList.{tagsIn, listAnswer}

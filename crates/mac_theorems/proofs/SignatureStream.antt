@@ -12,7 +12,7 @@ use borrow.Author.Tests.{lt-ltb, ltb-true}
 use Rattle.answer.specs.declared.Answer.{Answer}
 use Rattle.slices.specs.If.{if_then_else_}
 use Rattle.answer.specs.Answer.{accepted, refused, _orElse_}
-use Rattle.answer.proofs.Chain.{or-else-first, or-else-second, or-else-assoc}
+use Rattle.answer.proofs.laws.Chain.{or-else-first, or-else-second, or-else-assoc}
 use Rattle.dataset.specs.Tree.{Elements}
 use Rattle.dataset.specs.Reading.{Reading, fault, read, dataSet, answerOf, tree}
 use Rattle.dataset.specs.Lookup.{elementOf}

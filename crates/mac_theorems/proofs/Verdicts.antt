@@ -9,7 +9,7 @@ use native.Mathlib.Omega.{arith}
 use lib.Dec.{eqb}
 use borrow.Author.Tests.{eqb-true, eq-eqb}
 use Rattle.slices.specs.If.{if_then_else_}
-use Rattle.dataset.proofs.Bools.{both}
+use Rattle.dataset.proofs.laws.Bools.{both}
 use Rattle.digest.specs.Message.{digestOf}
 use Rattle.digest.specs.Sha256.{sha256}
 use Rattle.mac.specs.Result.{Result, isAccepted, neither, same, differs, compared, verdictOf}

@@ -1,3 +1,1 @@
-pub mod Parts
-pub mod Writing
-pub mod Comparing
+pub mod laws

@@ -1,5 +1,5 @@
 -- `all_are` meets its contract: each place by its law in Comparing. Assumes nothing.
-use Rattle.slices.proofs.Comparing as steps
+use Rattle.slices.proofs.laws.Comparing as steps
 use borrow.Author.Needs.{needs}
 use Prim.Native.Nat.{_-_}
 use lib.ListN.{length}

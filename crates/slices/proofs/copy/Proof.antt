@@ -1,5 +1,5 @@
 -- `copy` meets its contract: each place by its law in Writing. Assumes nothing.
-use Rattle.slices.proofs.Writing as writing
+use Rattle.slices.proofs.laws.Writing as writing
 use borrow.Author.Needs.{needs}
 use Prim.Native.Nat.{_-_}
 use Rattle.slices.proofs.copy.Statement.{statement}

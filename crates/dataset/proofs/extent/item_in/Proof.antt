@@ -1,5 +1,5 @@
--- `item_in` meets its contract: each place by its law in ExtentSteps. Assumes nothing.
-use Rattle.dataset.proofs.ExtentSteps as steps
+-- `item_in` meets its contract: each place by its law in OneItem. Assumes nothing.
+use Rattle.dataset.proofs.laws.extent.OneItem as steps
 use borrow.Author.Needs.{needs}
 use Rattle.dataset.proofs.extent.item_in.Statement.{statement}
 use Rattle.dataset.proofs.extent.item_in.Tie as tie

@@ -1,5 +1,5 @@
 -- `defined_by` meets its contract: at each `return` the tests that led there say which case of `definedBy` holds. Assumes nothing.
-use Rattle.dataset.proofs.Checks as checks
+use Rattle.dataset.proofs.laws.header.Checks as checks
 use Rattle.dataset.specs.Header.{definedBy}
 use Rattle.dataset.proofs.header.defined_by.Statement.{statement}
 use Rattle.dataset.proofs.header.defined_by.Tie as tie

@@ -1,5 +1,5 @@
 -- `header` meets its contract: at each `return` the tests that led there say which case of `elementAt` holds. Assumes nothing.
-use Rattle.dataset.proofs.Checks as checks
+use Rattle.dataset.proofs.laws.header.Checks as checks
 use Rattle.dataset.specs.Header.{elementAt}
 use borrow.Author.Needs.{needs}
 use Rattle.dataset.proofs.header.header.Statement.{statement}

@@ -1,5 +1,5 @@
 -- `item_header` meets its contract: at each `return` the tests that led there say which case of `itemAt` holds. Assumes nothing.
-use Rattle.dataset.proofs.Checks as checks
+use Rattle.dataset.proofs.laws.header.Checks as checks
 use Rattle.dataset.specs.Header.{itemAt}
 use borrow.Author.Needs.{needs}
 use Rattle.dataset.proofs.header.item_header.Statement.{statement}

@@ -1,5 +1,5 @@
 -- `long_form` meets its contract: at each `return` the tests that led there say which case of `longAt` holds. Assumes nothing.
-use Rattle.dataset.proofs.Checks as checks
+use Rattle.dataset.proofs.laws.header.Checks as checks
 use Rattle.dataset.specs.Header.{longAt}
 use borrow.Author.Needs.{needs}
 use Rattle.dataset.proofs.header.long_form.Statement.{statement}

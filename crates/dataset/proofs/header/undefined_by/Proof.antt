@@ -1,5 +1,5 @@
 -- `undefined_by` meets its contract: at each `return` the tests that led there say which case of `undefinedBy` holds. Assumes nothing.
-use Rattle.dataset.proofs.Checks as checks
+use Rattle.dataset.proofs.laws.header.Checks as checks
 use Rattle.dataset.specs.Header.{undefinedBy}
 use Rattle.dataset.proofs.header.undefined_by.Statement.{statement}
 use Rattle.dataset.proofs.header.undefined_by.Tie as tie

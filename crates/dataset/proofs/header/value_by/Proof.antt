@@ -1,5 +1,5 @@
 -- `value_by` meets its contract: at each `return` the tests that led there say which case of `valueBy` holds. Assumes nothing.
-use Rattle.dataset.proofs.Checks as checks
+use Rattle.dataset.proofs.laws.header.Checks as checks
 use Rattle.dataset.specs.Header.{valueBy}
 use borrow.Author.Needs.{needs}
 use Rattle.dataset.proofs.header.value_by.Statement.{statement}

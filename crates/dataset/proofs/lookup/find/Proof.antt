@@ -1,6 +1,6 @@
--- `find` meets its contract: the invariant is `FindLoop`, and each place is a law of proofs/LookupSteps.antt. Assumes nothing.
-use Rattle.dataset.proofs.LookupSteps as steps
-use Rattle.dataset.proofs.Steps.{size-passed}
+-- `find` meets its contract: the invariant is `FindLoop`, and each place is a law of FindLoop. Assumes nothing.
+use Rattle.dataset.proofs.laws.lookup.FindLoop as steps
+use Rattle.dataset.proofs.laws.reading.Loops.{size-passed}
 use borrow.Author.Needs.{needs}
 use Prim.Native.Nat.{_-_}
 use lib.ListN.{length}

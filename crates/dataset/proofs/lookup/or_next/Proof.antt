@@ -1,5 +1,5 @@
 -- `or_next` meets its contract: by cases. Assumes nothing.
-use Rattle.dataset.proofs.Checks as checks
+use Rattle.dataset.proofs.laws.header.Checks as checks
 use Rattle.dataset.specs.Inner.Outcomes.{orNext}
 use borrow.Author.Needs.{needs}
 use Rattle.dataset.proofs.lookup.or_next.Statement.{statement}

@@ -1,5 +1,5 @@
 -- `present_at` meets its contract. Assumes nothing.
-use Rattle.dataset.proofs.LookupSteps as steps
+use Rattle.dataset.proofs.laws.lookup.FindLoop as steps
 use borrow.Author.Needs.{needs}
 use Rattle.dataset.proofs.lookup.present_at.Statement.{statement}
 use Rattle.dataset.proofs.lookup.present_at.Tie as tie

@@ -1,6 +1,6 @@
--- `deeper` meets its contract: a law of proofs/Levels.antt for each return. Assumes nothing.
+-- `deeper` meets its contract: a law of Levels for each return. Assumes nothing.
 use borrow.Author.Needs.{needs}
-use Rattle.dataset.proofs.Levels as steps
+use Rattle.dataset.proofs.laws.reading.Levels as steps
 use Rattle.dataset.proofs.reading.deeper.Statement.{statement}
 use Rattle.dataset.proofs.reading.deeper.Tie as tie
 

@@ -1,5 +1,5 @@
 -- `read` meets its contract: by the laws on a whole data set. Assumes nothing.
-use Rattle.dataset.proofs.Steps as steps
+use Rattle.dataset.proofs.laws.reading.Loops as steps
 use borrow.Author.Needs.{needs}
 use Rattle.dataset.proofs.reading.read.Statement.{statement}
 use Rattle.dataset.proofs.reading.read.Tie as tie

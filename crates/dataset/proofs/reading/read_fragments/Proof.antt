@@ -1,8 +1,8 @@
--- `read_fragments` meets its contract: the invariant is `FragmentsLoop`, and each turn is a law of proofs/Steps.antt. Assumes nothing.
+-- `read_fragments` meets its contract: the invariant is `FragmentsLoop`, and each turn is a law of Loops. Assumes nothing.
 use borrow.Author.Needs.{needs}
 use Prim.Native.Nat.{_-_}
 use mathlib.Core.Path.{refl}
-use Rattle.dataset.proofs.Steps as steps
+use Rattle.dataset.proofs.laws.reading.Loops as steps
 use Rattle.dataset.proofs.reading.read_fragments.Statement.{statement}
 use Rattle.dataset.proofs.reading.read_fragments.Tie as tie
 

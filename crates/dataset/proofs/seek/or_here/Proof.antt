@@ -1,5 +1,5 @@
--- `or_here` meets its contract: each place by its law in SeekSteps. Assumes nothing.
-use Rattle.dataset.proofs.SeekSteps as steps
+-- `or_here` meets its contract: each place by its law in SeekLoop. Assumes nothing.
+use Rattle.dataset.proofs.laws.seek.SeekLoop as steps
 use borrow.Author.Needs.{needs}
 use Rattle.dataset.proofs.seek.or_here.Statement.{statement}
 use Rattle.dataset.proofs.seek.or_here.Tie as tie

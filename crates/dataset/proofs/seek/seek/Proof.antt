@@ -1,5 +1,5 @@
--- `seek` meets its contract: each place by its law in SeekSteps. Assumes nothing.
-use Rattle.dataset.proofs.SeekSteps as steps
+-- `seek` meets its contract: each place by its law in SeekLoop. Assumes nothing.
+use Rattle.dataset.proofs.laws.seek.SeekLoop as steps
 use borrow.Author.Needs.{needs}
 use Rattle.dataset.proofs.seek.seek.Statement.{statement}
 use Rattle.dataset.proofs.seek.seek.Tie as tie

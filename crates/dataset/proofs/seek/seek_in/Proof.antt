@@ -1,5 +1,5 @@
--- `seek_in` meets its contract: the invariant is `SeekLoop`, and each place is a law of SeekSteps. Assumes nothing.
-use Rattle.dataset.proofs.SeekSteps as steps
+-- `seek_in` meets its contract: the invariant is `SeekLoop`, and each place is a law of SeekLoop. Assumes nothing.
+use Rattle.dataset.proofs.laws.seek.SeekLoop as steps
 use borrow.Author.Needs.{needs}
 use Prim.Native.Nat.{_-_}
 use Rattle.dataset.proofs.seek.seek_in.Statement.{statement}

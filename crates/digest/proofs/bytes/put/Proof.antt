@@ -1,4 +1,4 @@
-use Rattle.digest.proofs.Padded.{pasted}
+use Rattle.digest.proofs.laws.padding.Padded.{pasted}
 use borrow.Author.Needs.{needs}
 use Rattle.digest.proofs.bytes.put.Statement.{statement}
 use Rattle.digest.proofs.bytes.put.Tie as tie

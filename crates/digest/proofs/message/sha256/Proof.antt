@@ -5,7 +5,7 @@ use Rattle.digest.specs.Sha256.{sha256}
 use Rattle.digest.specs.Running.{start, fed, feeding, finishing}
 use Rattle.digest.specs.declared.running.Running.{Running}
 use Rattle.digest.specs.declared.running.Fed.{Fed}
-use Rattle.digest.proofs.Calls.{start-fed, part-taken, part-refused, parts-finished}
+use Rattle.digest.proofs.laws.running.CallsInTurn.{start-fed, part-taken, part-refused, parts-finished}
 use Prim.Native.Nat.{ℕ}
 use borrow.Author.Needs.{needs}
 use Rattle.digest.proofs.message.sha256.Statement.{statement}

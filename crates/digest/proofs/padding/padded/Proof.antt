@@ -2,7 +2,7 @@ use native.Mathlib.Omega.{arith}
 use mathlib.Core.Path.{_≡_, sym}
 use lib.ListN.{length, take, length-take, length-set}
 use lib.Seq.{length-take-le}
-use Rattle.digest.proofs.Padded.{padded-stores}
+use Rattle.digest.proofs.laws.padding.Padded.{padded-stores}
 use borrow.Author.Needs.{needs}
 use Rattle.digest.proofs.padding.padded.Statement.{statement}
 use Rattle.digest.proofs.padding.padded.Tie as tie

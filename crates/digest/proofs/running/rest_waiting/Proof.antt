@@ -1,5 +1,5 @@
 use mathlib.Core.Path.{refl, _∙_}
-use Rattle.digest.proofs.Steps.{rest-in-zeros}
+use Rattle.digest.proofs.laws.running.WaitingArray.{rest-in-zeros}
 use borrow.Author.Needs.{needs}
 use Rattle.digest.proofs.running.rest_waiting.Statement.{statement}
 use Rattle.digest.proofs.running.rest_waiting.Tie as tie

@@ -1,4 +1,4 @@
-use Rattle.digest.proofs.Zeros.{zeros-from}
+use Rattle.digest.proofs.laws.running.Zeros.{zeros-from}
 use borrow.Author.Needs.{needs}
 use Rattle.digest.proofs.running.zero_from.Statement.{statement}
 use Rattle.digest.proofs.running.zero_from.Tie as tie

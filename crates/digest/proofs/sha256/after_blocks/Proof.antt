@@ -4,7 +4,7 @@ use mathlib.Core.Path.{_≡_, refl}
 use lib.ListN.{length-take, length-drop}
 use Rattle.digest.specs.Sha256.{constants, compressed}
 use Rattle.digest.specs.Message.{chain, afterBlocks}
-use Rattle.digest.proofs.Chain.{chain-next}
+use Rattle.digest.proofs.laws.running.Chain.{chain-next}
 use borrow.Author.Needs.{needs}
 use Prim.Native.Nat.{_-_, _≤_}
 use lib.ListN.{length}

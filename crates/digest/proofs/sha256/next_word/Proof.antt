@@ -2,7 +2,7 @@ use Prim.Native.Nat.{ℕ, _+_, _-_, _%_, _^_}
 use mathlib.Core.Path.{ap₂, _∙_}
 use Rattle.slices.specs.Lists.{at}
 use Rattle.digest.specs.Sha256.{nextWord}
-use Rattle.digest.proofs.Rounds.{sum-more}
+use Rattle.digest.proofs.laws.sha256.Rounds.{sum-more}
 use borrow.Author.Needs.{needs}
 use Rattle.digest.proofs.sha256.next_word.Statement.{statement}
 use Rattle.digest.proofs.sha256.next_word.Tie as tie

@@ -1,7 +1,7 @@
 use Prim.Native.Nat.{ℕ, _+_, _%_, _^_}
 use mathlib.Core.Path.{ap, ap₂, _∙_}
 use Rattle.digest.specs.Sha256.{round}
-use Rattle.digest.proofs.Rounds.{sum-more}
+use Rattle.digest.proofs.laws.sha256.Rounds.{sum-more}
 use borrow.Author.Needs.{needs}
 use Rattle.digest.proofs.sha256.round.Statement.{statement}
 use Rattle.digest.proofs.sha256.round.Tie as tie

@@ -2,7 +2,7 @@ use native.Mathlib.Omega.{arith}
 use Prim.Native.Nat.{_%_}
 use mathlib.Core.Path.{_≡_, refl}
 use Rattle.digest.specs.Sha256.{rounds}
-use Rattle.digest.proofs.Rounds.{rounds-next}
+use Rattle.digest.proofs.laws.sha256.Rounds.{rounds-next}
 use borrow.Author.Needs.{needs}
 use Prim.Native.Nat.{_+_, _-_, _≤_}
 use Rattle.digest.proofs.sha256.rounds.Statement.{statement}

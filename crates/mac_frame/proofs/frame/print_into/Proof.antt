@@ -1,4 +1,4 @@
-use Rattle.mac_frame.proofs.FrameSteps as steps
+use Rattle.mac_frame.proofs.laws.frame.FrameTests as steps
 use borrow.Author.Needs.{needs}
 use Rattle.mac_frame.proofs.frame.print_into.Statement.{statement}
 use Rattle.mac_frame.proofs.frame.print_into.Tie as tie

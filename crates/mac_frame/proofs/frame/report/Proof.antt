@@ -7,8 +7,8 @@ use Rattle.slices.specs.Lists.{between}
 use Rattle.mac.specs.Result.{outputAfter}
 use Rattle.mac.specs.ListMode.{Call, answer, result}
 use Rattle.mac_frame.specs.Frame.{frameCall}
-use Rattle.mac_frame.proofs.TextSteps.{length-line}
-use Rattle.mac_frame.proofs.FrameSteps.{report-refused, report-accepted, within-room, frame-call}
+use Rattle.mac_frame.proofs.laws.text.TextPieces.{length-line}
+use Rattle.mac_frame.proofs.laws.frame.FrameTests.{report-refused, report-accepted, within-room, frame-call}
 use borrow.Author.Needs.{needs}
 use Rattle.mac_frame.proofs.frame.report.Statement.{statement}
 use Rattle.mac_frame.proofs.frame.report.Tie as tie

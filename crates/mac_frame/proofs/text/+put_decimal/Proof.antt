@@ -1,6 +1,6 @@
 use native.Mathlib.Omega.{arith}
 use Prim.Native.Nat.{_/_}
-use Rattle.mac_frame.proofs.TextSteps.{length-decimal, decimal-wrote-last, decimal-wrote-more}
+use Rattle.mac_frame.proofs.laws.text.TextPieces.{length-decimal, decimal-wrote-last, decimal-wrote-more}
 use borrow.Author.Needs.{needs}
 use Prim.Native.Nat.{ℕ, _<_}
 use borrow.Fn.Kinds.{In}

@@ -1,5 +1,5 @@
 use native.Mathlib.Omega.{arith}
-use Rattle.mac_frame.proofs.TextSteps.{length-decimal, decimal-then-wrote}
+use Rattle.mac_frame.proofs.laws.text.TextPieces.{length-decimal, decimal-then-wrote}
 use borrow.Author.Needs.{needs}
 use Rattle.mac_frame.proofs.text.put_decimal_then.Statement.{statement}
 use Rattle.mac_frame.proofs.text.put_decimal_then.Tie as tie

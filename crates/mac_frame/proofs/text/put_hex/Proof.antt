@@ -1,4 +1,4 @@
-use Rattle.mac_frame.proofs.TextSteps.{hex-ended, hex-open}
+use Rattle.mac_frame.proofs.laws.text.TextPieces.{hex-ended, hex-open}
 use borrow.Author.Needs.{needs}
 use Rattle.mac_frame.proofs.text.put_hex.Statement.{statement}
 use Rattle.mac_frame.proofs.text.put_hex.Tie as tie

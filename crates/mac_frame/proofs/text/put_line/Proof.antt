@@ -1,6 +1,6 @@
 use native.Mathlib.Omega.{arith}
 use Rattle.mac_frame.specs.Text.{space}
-use Rattle.mac_frame.proofs.TextSteps.{length-decimal-then, line-wrote}
+use Rattle.mac_frame.proofs.laws.text.TextPieces.{length-decimal-then, line-wrote}
 use borrow.Author.Needs.{needs}
 use Rattle.mac_frame.proofs.text.put_line.Statement.{statement}
 use Rattle.mac_frame.proofs.text.put_line.Tie as tie

@@ -1,4 +1,4 @@
-use Rattle.mac_frame.proofs.TextSteps.{Lines, lines-start, lines-again, lines-end}
+use Rattle.mac_frame.proofs.laws.text.TextPieces.{Lines, lines-start, lines-again, lines-end}
 use borrow.Author.Needs.{needs}
 use Prim.Native.Nat.{_-_}
 use lib.ListN.{length}

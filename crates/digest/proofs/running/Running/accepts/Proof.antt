@@ -1,5 +1,5 @@
 use native.Mathlib.Omega.{arith}
-use Rattle.digest.proofs.Steps.{accepts-within, accepts-past}
+use Rattle.digest.proofs.laws.running.WaitingArray.{accepts-within, accepts-past}
 use borrow.Author.Needs.{needs}
 use Rattle.digest.proofs.running.Running.accepts.Statement.{statement}
 use Rattle.digest.proofs.running.Running.accepts.Tie as tie

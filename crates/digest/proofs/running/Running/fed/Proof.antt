@@ -1,7 +1,7 @@
 use native.Mathlib.Omega.{arith}
 use lib.ListN.{length-take}
 use Rattle.digest.specs.Sha256.{sha256}
-use Rattle.digest.proofs.Steps.{fed-few, fed-many, part-to-end}
+use Rattle.digest.proofs.laws.running.WaitingArray.{fed-few, fed-many, part-to-end}
 use Prim.Native.Nat.{_-_}
 use borrow.Author.Needs.{needs}
 use Rattle.digest.proofs.running.Running.fed.Statement.{statement}

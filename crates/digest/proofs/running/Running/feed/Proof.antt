@@ -1,7 +1,7 @@
 use mathlib.Core.Path.{sym, _∙_}
 use Rattle.digest.specs.Sha256.{sha256}
-use Rattle.digest.proofs.Steps.{ready}
-use Rattle.digest.proofs.Answers.{feeding-accepted, feeding-refused}
+use Rattle.digest.proofs.laws.running.WaitingArray.{ready}
+use Rattle.digest.proofs.laws.running.AcceptedCalls.{feeding-accepted, feeding-refused}
 use borrow.Author.Needs.{needs}
 use Rattle.digest.proofs.running.Running.feed.Statement.{statement}
 use Rattle.digest.proofs.running.Running.feed.Tie as tie

@@ -1,8 +1,8 @@
 use mathlib.Core.Path.{sym, _∙_}
 use lib.ListN.{replicate}
 use Rattle.digest.specs.Sha256.{sha256}
-use Rattle.digest.proofs.Steps.{ready}
-use Rattle.digest.proofs.Answers.{finishing-accepted, finishing-refused}
+use Rattle.digest.proofs.laws.running.WaitingArray.{ready}
+use Rattle.digest.proofs.laws.running.AcceptedCalls.{finishing-accepted, finishing-refused}
 use borrow.Author.Needs.{needs}
 use Rattle.digest.proofs.running.Running.finish.Statement.{statement}
 use Rattle.digest.proofs.running.Running.finish.Tie as tie

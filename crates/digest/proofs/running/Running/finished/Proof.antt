@@ -8,7 +8,7 @@ use Rattle.digest.specs.Padding.{bigEndian, wordBytes, padding}
 use Rattle.digest.specs.Message.{afterBlocks}
 use Rattle.digest.specs.Sha256.{compressed}
 use Rattle.digest.specs.Running.{finished, waitingBytes}
-use Rattle.digest.proofs.Padded.{Fills, fills}
+use Rattle.digest.proofs.laws.padding.Padded.{Fills, fills}
 use borrow.Author.Needs.{needs}
 use Rattle.digest.proofs.running.Running.finished.Statement.{statement}
 use Rattle.digest.proofs.running.Running.finished.Tie as tie

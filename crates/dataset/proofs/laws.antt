@@ -1,0 +1,6 @@
+pub mod Bools
+pub mod extent
+pub mod header
+pub mod lookup
+pub mod reading
+pub mod seek

@@ -1,0 +1,2 @@
+pub mod ItemsFrom
+pub mod OneItem

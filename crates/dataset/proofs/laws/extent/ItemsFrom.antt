@@ -1,0 +1,91 @@
+-- The items of an extent from an offset on, by what `item_in` answers there. Assumes nothing.
+use Prim.Native.Nat.{ℕ, _≤_, _<_}
+use mathlib.Core.Path.{_≡_, refl, sym, ap, _∙_}
+use mathlib.Core.Bool.{Bool, true, true≢false}
+use mathlib.Core.List.{List}
+use native.Mathlib.Omega.{arith}
+use lib.ListN.{length}
+use Rattle.answer.specs.declared.Answer.{Answer}
+use Rattle.dataset.specs.Header.{ItemHeader, itemAt}
+use Rattle.dataset.specs.Tree.{Elements, Items}
+use Rattle.dataset.specs.Reading.{Reading, fault, read, _>>=_, explicit, byItem, elementsAt, itemsAt, deeper}
+use Rattle.dataset.specs.Extent.{ItemIn, elementsIn, itemInBy, itemIn, itemInCase}
+use Rattle.dataset.specs.Place.{Lies}
+use Rattle.dataset.specs.Inner.Outcomes.{outcomeOf}
+use Rattle.dataset.specs.declared.extent.Extent.{Extent}
+use Rattle.dataset.specs.declared.extent.ItemIn as itemEnum
+use Rattle.dataset.specs.declared.extent.ItemIn.the-variants as itemPlace
+use Rattle.dataset.proofs.laws.header.HeaderFacts.{ItemFacts, ItemSpan, item-facts}
+use Rattle.dataset.proofs.laws.reading.Bounded.{explicit-bounded}
+use Rattle.dataset.proofs.laws.reading.Unfolding.{items-are}
+use Rattle.dataset.proofs.laws.reading.Outcomes.{elements-next}
+
+-- the items of an extent from `at` on
+abbrev pub itemsFrom : List ℕ → Extent → (at : ℕ) → Reading Items
+itemsFrom d x at = itemsAt explicit d (x .delimited) (x .left) (x .stop) at
+
+-- ---- the header, by what stands in an item's place
+is-refused : (left : ℕ) (p : ItemHeader) (f : Answer) → itemInBy left p ≡ ItemIn.refused f → p ≡ ItemHeader.refused f
+is-refused left (ItemHeader.refused a) f q = let k : a ≡ f = cc in ap ItemHeader.refused k
+is-refused left (ItemHeader.ends n) f q = absurd (true≢false (cc))
+is-refused left (ItemHeader.item start end inner) f q = absurd (true≢false (cc))
+
+is-end : (left : ℕ) (p : ItemHeader) (next : ℕ) → itemInBy left p ≡ ItemIn.ends next → p ≡ ItemHeader.ends next
+is-end left (ItemHeader.refused a) next q = absurd (true≢false (cc))
+is-end left (ItemHeader.ends n) next q = let k : n ≡ next = cc in ap ItemHeader.ends k
+is-end left (ItemHeader.item start end inner) next q = absurd (true≢false (cc))
+
+record IsItem (left : ℕ) (p : ItemHeader) (inside : Extent) : Type 0 where
+  pub is : p ≡ ItemHeader.item (inside .from) (inside .stop) (inside .delimited)
+  pub deep : inside .left ≡ deeper left
+
+is-item : (left : ℕ) (p : ItemHeader) (inside : Extent) → itemInBy left p ≡ ItemIn.item inside → IsItem left p inside
+is-item left (ItemHeader.refused a) inside q = absurd (true≢false (cc))
+is-item left (ItemHeader.ends n) inside q = absurd (true≢false (cc))
+is-item left (ItemHeader.item start end inner) inside q =
+    let k : record { delimited = inner; left = deeper left; stop = end; from = start } ≡ inside = cc in
+    rw (← k) record { is = refl; deep = refl }
+
+-- ---- what is read from `at` on: r is what `item_in` answers there
+module _ (d : List ℕ) (x : Extent) (at : ℕ) (r : itemEnum.ItemIn) (e : itemInCase r ≡ itemIn d x at) where
+  answered : (p : itemEnum.ItemIn) → r ≡ p → itemInBy (x .left) (itemAt d true (x .delimited) (x .stop) at) ≡ itemInCase p
+  unfolding itemIn
+  answered p q = sym e ∙ ap itemInCase q
+
+  module _ (h : at ≤ x .stop) where
+    items-by : (p : ItemHeader) → itemAt d true (x .delimited) (x .stop) at ≡ p
+        → itemsFrom d x at ≡ byItem (λ inner end start. elementsAt explicit d inner (deeper (x .left)) end start 0) (itemsFrom d x) at p
+    items-by p q = rw (items-are explicit explicit-bounded d (x .delimited) (x .left) (x .stop) at h, q)
+
+    pub items-refused : (f : Answer) → r ≡ itemPlace.Refused f → itemsFrom d x at ≡ fault f
+    unfolding byItem
+    items-refused f q = items-by (ItemHeader.refused f) (is-refused (x .left) (itemAt d true (x .delimited) (x .stop) at) f (answered (itemPlace.Refused f) q))
+
+    pub items-end : (next : ℕ) → r ≡ itemPlace.End next → itemsFrom d x at ≡ read Items.last next
+    unfolding byItem
+    items-end next q = items-by (ItemHeader.ends next) (is-end (x .left) (itemAt d true (x .delimited) (x .stop) at) next (answered (itemPlace.End next) q))
+
+  module _ (inside : Extent) (q : r ≡ itemPlace.Item inside) where
+    it : IsItem (x .left) (itemAt d true (x .delimited) (x .stop) at) inside
+    it = is-item (x .left) (itemAt d true (x .delimited) (x .stop) at) inside (answered (itemPlace.Item inside) q)
+
+    item-span : ItemSpan d (x .stop) at (inside .from) (inside .stop) (inside .delimited)
+    item-span =
+        let k : ItemFacts d true (x .delimited) (x .stop) at (ItemHeader.item (inside .from) (inside .stop) (inside .delimited)) =
+        rw (it .is) at (item-facts d true (x .delimited) (x .stop) at) in
+        k .0
+
+    pub item-lies : x .stop ≤ length d → Lies d inside
+    item-lies l = let k = item-span in record { order = k .order; inside = omega (arith, k .inside) }
+
+    -- one item and the rest
+    pub items-are-one : (h : at ≤ x .stop) → itemsFrom d x at
+        ≡ (elementsIn d inside >>= λ (es, next). itemsFrom d x next >>= λ (rest, after). read (Items.item at es rest) after)
+    unfolding byItem
+    items-are-one h = rw (it .deep) (items-by h (ItemHeader.item (inside .from) (inside .stop) (inside .delimited)) (it .is))
+
+    pub item-past : (es : Elements) (next : ℕ) → elementsIn d inside ≡ read es next → (at < next) × (next ≤ x .stop)
+    item-past es next w =
+        let j = item-span in
+        let n = elements-next d (inside .left) (inside .stop) (inside .from) next (j .order) (inside .delimited) 0 (sym (ap outcomeOf w)) in
+        omega (arith, j, n)

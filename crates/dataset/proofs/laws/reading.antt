@@ -1,0 +1,12 @@
+pub mod Bounded
+pub mod Filled
+pub mod FirstFault
+pub mod Guarantees
+pub mod Levels
+pub mod Lies
+pub mod Loops
+pub mod OneElement
+pub mod Order
+pub mod Outcomes
+pub mod Unfolding
+pub mod Within

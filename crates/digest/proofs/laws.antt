@@ -1,0 +1,4 @@
+pub mod Tables
+pub mod padding
+pub mod running
+pub mod sha256

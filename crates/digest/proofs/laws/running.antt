@@ -1,0 +1,6 @@
+pub mod AcceptedCalls
+pub mod CallsInTurn
+pub mod Chain
+pub mod Feeding
+pub mod WaitingArray
+pub mod Zeros

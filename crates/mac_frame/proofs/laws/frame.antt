@@ -1,0 +1,2 @@
+pub mod FrameLayout
+pub mod FrameTests
