@@ -11,17 +11,16 @@ use borrow.Author.Tests.{ne-eqb}
 use Rattle.answer.specs.declared.Answer.{Answer}
 use Rattle.slices.specs.If.{if_then_else_}
 use Rattle.answer.specs.Answer.{accepted, refused, _orElse_}
-use Rattle.answer.proofs.laws.Chain.{both-accepted}
-use Rattle.dataset.specs.Tree.{Elements}
-use Rattle.dataset.specs.Reading.{fault, read, sizeLimit}
+use Rattle.answer.proofs.laws.Chain.{or-else-second, or-else-refuses, both-accepted}
 use Rattle.mac.specs.TagList.{tagsIn, badSize, ascendingAnswer, unbarredAnswer, listAnswer}
-use Rattle.mac.specs.Modes.{answerFrom13}
+use Rattle.mac.specs.Modes.{answerFrom9}
 use Rattle.mac.specs.Result.{Result, outputAfter}
 use Rattle.dataset.specs.Place.{Lies}
-use Rattle.dataset.specs.Extent.{elementsIn, wholeOf}
-use Rattle.mac.specs.Inner.Calls.{wholeStream, Left, AnsweredFrom13, CallAnswered}
+use Rattle.dataset.specs.Extent.{wholeOf}
+use Rattle.mac.specs.Inner.Verdict.{lengthOf}
+use Rattle.mac.specs.Inner.Calls.{Left, callFrom9, CallAnswered}
 use Rattle.dataset.specs.declared.extent.Extent.{Extent}
-use Rattle.mac.specs.declared.modes.SignatureItem.{SignatureItem}
+use Rattle.mac.specs.declared.verdict.ExpectedLength.{ExpectedLength}
 
 -- ---- the tag list
 first-accepted : (b : Bool) (index : ℕ) (rest : Answer) → (rest .number ≡ 0 → rest ≡ accepted 0) → (if b then refused 11 index else rest) .number ≡ 0
@@ -47,32 +46,47 @@ pub whole-lies : (d : List ℕ) (x : Extent) → x ≡ wholeOf (length d) → Li
 whole-lies d x e = rw e record { order = omega arith; inside = omega arith }
 
 -- ---- a refusal
-pub call-refused : (call : Option (List ℕ) → Result) (bad : Bool) (out : List ℕ) (a : Answer) → ((expected : Option (List ℕ)) → a ≡ call expected .answer) → (a .number ≡ 0 → ⊥)
-    → CallAnswered call bad out a out
-unfolding outputAfter if_then_else_
-call-refused call bad out a q h = record {
-  streamed = λ expected b. record { answers = q expected; output = rw (← q expected, ne-eqb (a .number) 0 h) };
-  long = λ expected z. absurd (h z);
-  room = λ z. absurd (h z);
-  short = λ z. absurd (h z);
-}
-
--- ---- from 13 on
-module _ (call : Option (List ℕ) → Result) (l d : List ℕ) (x : Extent) (follows : SignatureItem) (bad : Bool) (out : List ℕ) (r : Answer) (ys : List ℕ) (t : AnsweredFrom13 l d x follows bad out r ys) where
-  -- the data set is refused
-  pub call-fault : (f : Answer) → elementsIn d x ≡ fault f → (f .number ≡ 0 → ⊥) → ((expected : Option (List ℕ)) → f ≡ call expected .answer) → CallAnswered call bad out r ys
-  call-fault f e h q =
-      let v = t .refused f e in
-      subst (λ (zs : List ℕ). CallAnswered call bad out r zs) (sym (v .1))
-      (call-refused call bad out r (λ expected. v .0 ∙ q expected) (λ z. h (ap (λ (y : Answer). y .number) (sym (v .0)) ∙ z)))
-
-  -- the data set is read
-  pub call-read : (es : Elements) (next : ℕ) → elementsIn d x ≡ read es next → length d ≤ sizeLimit
-      → ((expected : Option (List ℕ)) → _≡_ {A = Result} (record { answer = answerFrom13 (tagsIn l) es (wholeStream (tagsIn l) es d follows) (length out) expected; stream = wholeStream (tagsIn l) es d follows; expected = expected }) (call expected))
-      → CallAnswered call bad out r ys
-  call-read es next e h q = record {
-    streamed = λ expected b. subst (λ (c : Result). Left c out r ys) (q expected) (t .streamed es next e expected b);
-    long = λ expected z. t .long es next e z ∙ ap (λ (c : Result). length (c .stream)) (q expected);
-    room = t .room;
-    short = λ z. omega (arith, t .short z);
+module _ (call : Option (List ℕ) → Result) (given : ExpectedLength) (most : ℕ) (out : List ℕ) where
+  pub call-refused : (a : Answer) → ((expected : Option (List ℕ)) → lengthOf expected ≡ given → a ≡ call expected .answer) → (a .number ≡ 0 → ⊥)
+      → CallAnswered call given most out a out
+  unfolding outputAfter if_then_else_
+  call-refused a q h = record {
+    streamed = λ expected g. record { answers = q expected g; output = rw (← q expected g, ne-eqb (a .number) 0 h) };
+    long = λ expected z. absurd (h z);
+    room = λ z. absurd (h z);
+    short = λ z. absurd (h z);
   }
+
+  -- by its number
+  pub call-number : (number : ℕ) → (number ≡ 0 → ⊥) → (a : Answer) → a ≡ refused number 0
+      → ((expected : Option (List ℕ)) → lengthOf expected ≡ given → call expected .answer ≡ refused number 0) → CallAnswered call given most out a out
+  call-number number n a e q =
+      call-refused a (λ expected g. e ∙ sym (q expected g)) (λ z. n (ap (λ (x : Answer). x .number) (sym e) ∙ z))
+
+-- ---- a call with this stream whose order up to 15 comes to `first`
+abbrev pub callOf : (first : Answer) (stream : List ℕ) (room : ℕ) → Option (List ℕ) → Result
+callOf first stream room expected = record { answer = first orElse answerFrom9 stream room expected; stream = stream; expected = expected }
+
+module _ (first : Answer) (stream : List ℕ) (given : ExpectedLength) (most : ℕ) (out : List ℕ) where
+  -- m is what measuring answers
+  pub measured-refused : (m : Answer) → m ≡ (first orElse accepted (length stream)) → (m .number ≡ 0 → ⊥)
+      → CallAnswered (callOf first stream (length out)) given most out m out
+  measured-refused m e h =
+      call-refused (callOf first stream (length out)) given most out m
+      (λ expected g. e ∙ or-else-refuses first (accepted (length stream)) _ refl (λ z. h (ap (λ (x : Answer). x .number) e ∙ z)))
+      h
+
+  pub measured-on : (bytes : List ℕ) → bytes ≡ stream → (least : ℕ) → least ≤ most → (first orElse accepted (length stream)) .number ≡ 0
+      → (r : Answer) (ys : List ℕ) → CallAnswered (callFrom9 bytes (length out)) given least out r ys
+      → CallAnswered (callOf first stream (length out)) given most out r ys
+  measured-on bytes same least l z r ys t = record {
+    streamed = λ expected g. subst (λ (c : Result). Left c out r ys) (on expected) (t .streamed expected g);
+    long = λ expected n. t .long expected n ∙ ap length same;
+    room = t .room;
+    short = λ n. omega (arith, t .short n);
+  }
+    where
+      on : (expected : Option (List ℕ)) → callFrom9 bytes (length out) expected ≡ callOf first stream (length out) expected
+      on expected =
+          ap (λ (s : List ℕ). callFrom9 s (length out) expected) same
+          ∙ ap (λ (a : Answer). record { answer = a; stream = stream; expected = expected }) (sym (or-else-second first _ (both-accepted first _ z .first)))

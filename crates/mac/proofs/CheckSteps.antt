@@ -3,7 +3,7 @@ use Prim.Native.Nat.{ℕ, suc, _+_, _≤_, _<_}
 use mir.Syntax.{w8}
 use mir.Val.{Fits}
 use mathlib.Core.Path.{_≡_, refl, sym, ap, _∙_}
-use mathlib.Core.Bool.{Bool, true, false, _&&_}
+use mathlib.Core.Bool.{Bool, true, false, not, _&&_}
 use mathlib.Core.List.{List, [], _∷_, _++_}
 use mathlib.Core.Option.{Option, some}
 use mathlib.Core.Option as Opt
@@ -17,15 +17,20 @@ use Rattle.slices.specs.If.{if_then_else_}
 use Rattle.digest.specs.Message.{limit, digestOf, hashing}
 use Rattle.digest.specs.Sha256.{sha256}
 use Rattle.digest.specs.declared.message.Hashed.{Hashed}
-use Rattle.mac.specs.Modes.{badDigestLength}
 use Rattle.mac.specs.Result.{Result, outputAfter, same, differs, verdictCode, compared, verdictOf, Streamed, CheckedAs}
 use Rattle.slices.specs.Lists.{sameBytes}
-use Rattle.mac.specs.Inner.Verdict.{CheckOf}
+use Rattle.mac.specs.Inner.Verdict.{CheckOf, lengthOf, badLength}
 use Rattle.mac.specs.Inner.Calls.{CallAnswered}
 use Rattle.mac.specs.declared.verdict.Verdict.{Verdict}
 use Rattle.mac.specs.declared.verdict.Verdict.the-variants as verdict
 use Rattle.mac.specs.declared.verdict.Checked.{Checked}
+use Rattle.mac.specs.declared.verdict.ExpectedLength.{ExpectedLength}
+use Rattle.mac.specs.declared.verdict.ExpectedLength.the-variants as expectedLength
 use Rattle.slices.proofs.laws.Parts.{drop-one}
+
+-- ---- 9
+pub length-given : (e : ExpectedLength) (n : ℕ) → e ≡ expectedLength.Length n → not (eqb n 32) ≡ badLength e
+length-given e n q = rw q
 
 -- ---- the verdict
 module _ (digest expected : List ℕ) (b : Bool) (e : b ≡ sameBytes digest expected) where
@@ -59,11 +64,11 @@ check-count a work h z = sym (length-take-le (a .length) work (h z))
 abbrev pub AllFit : List ℕ → Type 0
 AllFit d = (i : ℕ) → Fits w8 (getD d i 0)
 
-pub call-streamed : (call : Option (List ℕ) → Result) (d out after : List ℕ) (a : Answer) → CallAnswered call false out a after → AllFit d → Streamed (call Opt.none) d out a after
+pub call-streamed : (call : Option (List ℕ) → Result) (d out after : List ℕ) (a : Answer) → CallAnswered call (lengthOf Opt.none) limit out a after → AllFit d
+    → Streamed (call Opt.none) d out a after
 call-streamed call d out after a s b = let t = s .streamed Opt.none refl in record { answers = t .answers; output = t .output; bytes = λ i. b i .fits }
 
-module _ (call : Option (List ℕ) → Result) (d expected work after : List ℕ) (a : Answer) (bad : Bool) (n : bad ≡ badDigestLength (some expected))
-    (s : CallAnswered call bad work a after) where
+module _ (call : Option (List ℕ) → Result) (d expected work after : List ℕ) (a : Answer) (s : CallAnswered call (lengthOf (some expected)) limit work a after) where
   pub call-room : length after ≡ length work → a .number ≡ 0 → a .length ≤ length after
   call-room k h = omega (arith, s .room h)
 
@@ -71,7 +76,7 @@ module _ (call : Option (List ℕ) → Result) (d expected work after : List ℕ
   digested : a .number ≡ 0 → take (a .length) after ≡ call (some expected) .stream
   unfolding outputAfter if_then_else_
   digested h =
-      let t = s .streamed (some expected) (sym n) in
+      let t = s .streamed (some expected) refl in
       let b = call (some expected) .stream in
       let y : after ≡ b ++ drop (length b) work = t .output ∙ rw (← t .answers, eq-eqb (a .number) 0 h) in
       rw y (take-at b (drop (length b) work) (a .length) (sym (s .long (some expected) h)))
@@ -79,7 +84,7 @@ module _ (call : Option (List ℕ) → Result) (d expected work after : List ℕ
   pub call-checked : (r : Checked) → call (some expected) .expected ≡ some expected → CheckOf a expected after r → AllFit d → CheckedAs (call (some expected)) d work r after
   unfolding verdictOf if_then_else_
   call-checked r e k b =
-      let t = s .streamed (some expected) (sym n) in
+      let t = s .streamed (some expected) refl in
       record { answers = k .answers ∙ t .answers; says = go (eqb (a .number) 0) refl; output = t .output; bytes = λ i. b i .fits }
     where
       go : (b : Bool) → eqb (a .number) 0 ≡ b → verdictCode (r .verdict) ≡ verdictOf (call (some expected))
@@ -87,5 +92,5 @@ module _ (call : Option (List ℕ) → Result) (d expected work after : List ℕ
           let z = eqb-true (a .number) 0 q in
           let b = call (some expected) .stream in
           let m : length b ≤ limit = omega (arith, s .long (some expected) z, s .short z) in
-          k .says z ∙ rw (digested z, hashes b m, e, ← s .streamed (some expected) (sym n) .answers, q)
-      go false q = k .refused (eqb-false (a .number) 0 q) ∙ rw (← s .streamed (some expected) (sym n) .answers, q)
+          k .says z ∙ rw (digested z, hashes b m, e, ← s .streamed (some expected) refl .answers, q)
+      go false q = k .refused (eqb-false (a .number) 0 q) ∙ rw (← s .streamed (some expected) refl .answers, q)

@@ -1,4 +1,4 @@
-pub mod From13Answers
+pub mod From9Answers
 pub mod StreamLength
 pub mod OwnElements
 pub mod SelectionNumbers
@@ -18,12 +18,14 @@ pub mod Finding
 pub mod Merge
 pub mod ListSteps
 pub mod StreamWalkSteps
-pub mod From13Steps
-pub mod CheckSteps
 pub mod CallSteps
+pub mod MeasureSteps
+pub mod From9Steps
+pub mod CheckSteps
 pub mod ListModeSteps
 pub mod SignatureSteps
 pub mod PlaceValues
 pub mod SelectionTests
+pub mod ParametersSteps
 pub mod SelectSteps
 pub mod FindItemSteps

@@ -1,100 +1,103 @@
 -- What list mode answers and leaves, place by place, with the facts of the place as premises. Assumes nothing.
 use Prim.Native.Nat.{ℕ, _≤_, _<_}
-use mathlib.Core.Path.{_≡_, refl, sym, ap, ap₂, _∙_}
-use mathlib.Core.Bool.{Bool, true, false}
+use mathlib.Core.Path.{_≡_, refl, sym, ap, _∙_}
 use mathlib.Core.List.{List, append-nil}
-use mathlib.Core.Option.{Option, some}
+use mathlib.Core.Option.{some}
+use mathlib.Core.Option as Opt
 use native.Mathlib.Omega.{arith}
-use lib.Dec.{eqb}
+use lib.Dec.{ltb}
 use lib.ListN.{length}
-use borrow.Author.Tests.{lt-ltb, le-ltb, eqb-true, eqb-false}
+use borrow.Author.Tests.{lt-ltb, le-ltb, ltb-false}
 use Rattle.answer.specs.declared.Answer.{Answer}
 use Rattle.slices.specs.If.{if_then_else_}
 use Rattle.answer.specs.Answer.{accepted, refused, _orElse_}
-use Rattle.answer.proofs.laws.Chain.{or-else-first, or-else-second}
+use Rattle.answer.proofs.laws.Chain.{or-else-first, or-else-second, or-else-assoc, both-accepted, passed}
 use Rattle.dataset.specs.Tree.{Elements}
-use Rattle.dataset.specs.Reading.{Reading, fault, read, sizeLimit, dataSet, answerOf, treeOf, tree}
-use Rattle.dataset.proofs.laws.reading.Loops.{data-set-is}
+use Rattle.dataset.specs.Reading.{Reading, fault, read, sizeLimit, sizeAnswer, dataSet, answerOf, treeOf}
+use Rattle.dataset.proofs.laws.reading.Loops.{data-set-is, size-within, size-passed}
 use Rattle.dataset.proofs.Theorems.{faults-inside}
+use Rattle.digest.specs.Message.{limit}
 use Rattle.mac.specs.TagList.{tagsIn, listAnswer}
 use Rattle.mac.specs.Stream.{listedStream}
-use Rattle.mac.specs.Modes.{answerFrom13, badDigestLength}
-use Rattle.mac.specs.Result.{Result, Streamed, CheckedAs}
-use Rattle.mac.specs.ListMode.{stream, answer, result, streamCall, checkCall}
+use Rattle.mac.specs.Modes.{tagsAnswer}
+use Rattle.mac.specs.Result.{Streamed, CheckedAs}
+use Rattle.mac.specs.ListMode.{streamIn, answerTo15, measure, answer, result, streamCall, checkCall}
 use Rattle.dataset.specs.Extent.{elementsIn, wholeOf}
-use Rattle.mac.specs.Inner.Calls.{wholeStream, AnsweredFrom13, AnsweredFrom10, listCall, CallAnswered}
-use Rattle.mac.specs.Inner.Verdict.{CheckOf}
+use Rattle.mac.specs.Inner.Verdict.{CheckOf, lengthOf}
+use Rattle.mac.specs.Inner.Calls.{wholeStream, walkAnswer, measureIn, Measures, streamAt, AnsweredFrom9, listCall, CallAnswered}
 use Rattle.dataset.specs.declared.extent.Extent.{Extent}
 use Rattle.mac.specs.declared.modes.SignatureItem.the-variants as signatureItem
 use Rattle.mac.specs.declared.verdict.Checked.{Checked}
-use Rattle.mac.proofs.CallSteps.{call-refused, call-fault, call-read}
+use Rattle.mac.specs.declared.verdict.ExpectedLength.{ExpectedLength}
+use Rattle.mac.proofs.CallSteps.{whole-lies, measured-refused, measured-on}
 use Rattle.mac.proofs.CheckSteps.{AllFit, call-streamed, call-room, call-checked}
+use Rattle.mac.proofs.MeasureSteps.{measures}
 
-module _ (l d : List ℕ) (bad : Bool) (out : List ℕ) where
-  pub list-over : (a : Answer) → sizeLimit < length d → a ≡ refused 1 0 → CallAnswered (listCall l d out) bad out a out
-  unfolding answer if_then_else_
-  list-over a h e =
-      call-refused (listCall l d out) bad out a (λ expected. e ∙ sym (rw (lt-ltb sizeLimit (length d) h) (or-else-first (refused 1 0) _ (λ z. omega arith))))
-      (λ z. let y : _≡_ {A = ℕ} 1 0 = ap (λ (x : Answer). x .number) (sym e) ∙ z in omega arith)
+module _ (l d : List ℕ) where
+  -- ---- measuring
+  pub list-over : (a : Answer) → a ≡ sizeAnswer d → (a .number ≡ 0 → ⊥) → a ≡ measure l d
+  unfolding measure answerTo15
+  list-over a e h = sym (rw (← e) (or-else-assoc a _ _ ∙ or-else-first a _ h))
 
-  module _ (h : length d ≤ sizeLimit) where
-    abbrev f : Answer
-    f = listAnswer l
+  -- 2 to 8, and 13 to 15 or the length
+  by-reading : (p : Reading Elements) → dataSet d ≡ p
+      → ((answerOf p orElse tagsAnswer 0 (tagsIn l) (treeOf p)) orElse accepted (length (listedStream (tagsIn l) (treeOf p) d))) ≡ walkAnswer (tagsIn l) d signatureItem.Absent p
+  unfolding walkAnswer wholeStream
+  by-reading (fault f) q = or-else-assoc f _ _ ∙ or-else-first f _ (λ z. omega (arith, faults-inside d f q .least))
+  by-reading (read es n) q =
+      ap (λ (a : Answer). a orElse accepted (length (listedStream (tagsIn l) es d))) (or-else-second (accepted 0) _ refl)
+      ∙ ap (λ (s : List ℕ). tagsAnswer 0 (tagsIn l) es orElse accepted (length s)) (sym (append-nil (listedStream (tagsIn l) es d)))
 
-    -- the call's end of the order
-    abbrev last : Elements → Option (List ℕ) → Answer
-    last es expected = answerFrom13 (tagsIn l) es (listedStream (tagsIn l) es d) (length out) expected
+  module _ (h : length d ≤ sizeLimit) (x : Extent) (w : x ≡ wholeOf (length d)) where
+    whole : elementsIn d x ≡ dataSet d
+    whole = rw w (sym (data-set-is d h))
 
-    -- after 1
-    on : (expected : Option (List ℕ)) → listCall l d out expected .answer ≡ (f orElse answerOf (dataSet d) orElse last (tree d) expected)
-    unfolding answer stream if_then_else_
-    on expected = rw (le-ltb sizeLimit (length d) h) (or-else-second (accepted 0) _ refl)
+    measure-is : measure l d ≡ measureIn l d x signatureItem.Absent
+    unfolding measure answerTo15 streamIn
+    measure-is =
+        rw (size-within d h, whole)
+        (ap (λ (a : Answer). a orElse accepted (length (streamIn l d))) (or-else-second (accepted 0) _ refl) ∙ or-else-assoc (listAnswer l) _ _
+        ∙ ap (λ (a : Answer). listAnswer l orElse a) (by-reading (dataSet d) refl))
 
-    list-refused : (f .number ≡ 0 → ⊥) → CallAnswered (listCall l d out) bad out f out
-    list-refused k = call-refused (listCall l d out) bad out f (λ expected. sym (on expected ∙ or-else-first f _ k)) k
+    pub list-measured : (r : Answer) → r ≡ measureIn l d x signatureItem.Absent → r ≡ measure l d
+    list-measured r e = e ∙ sym measure-is
 
-    module _ (k : f .number ≡ 0) (x : Extent) (w : x ≡ wholeOf (length d)) (r : Answer) (ys : List ℕ) (t : AnsweredFrom13 l d x signatureItem.Absent bad out r ys) where
-      whole : elementsIn d x ≡ dataSet d
-      whole = rw w (sym (data-set-is d h))
+    stream-is : streamAt l d x signatureItem.Absent ≡ streamIn l d
+    unfolding wholeStream streamIn
+    stream-is = append-nil _ ∙ ap (λ (p : Reading Elements). listedStream (tagsIn l) (treeOf p) d) whole
 
-      -- the call, where the data set is read
-      read-call : (es : Elements) (next : ℕ) → dataSet d ≡ read es next → (expected : Option (List ℕ))
-          → _≡_ {A = Result}
-          (record { answer = answerFrom13 (tagsIn l) es (wholeStream (tagsIn l) es d signatureItem.Absent) (length out) expected; stream = wholeStream (tagsIn l) es d signatureItem.Absent; expected = expected })
-          (listCall l d out expected)
-      unfolding stream wholeStream
-      read-call es next q expected =
-          let s : wholeStream (tagsIn l) es d signatureItem.Absent ≡ listedStream (tagsIn l) es d = append-nil (listedStream (tagsIn l) es d) in
-          let v : es ≡ tree d = sym (ap treeOf q) in
-          let a : answerFrom13 (tagsIn l) es (wholeStream (tagsIn l) es d signatureItem.Absent) (length out) expected ≡ listCall l d out expected .answer =
-          ap (λ (b : List ℕ). answerFrom13 (tagsIn l) es b (length out) expected) s ∙ ap (λ (b : Elements). last b expected) v
-          ∙ sym (on expected ∙ or-else-second f _ k ∙ or-else-second (answerOf (dataSet d)) _ (ap (λ (p : Reading Elements). answerOf p .number) q)) in
-          let b : wholeStream (tagsIn l) es d signatureItem.Absent ≡ listedStream (tagsIn l) (tree d) d = s ∙ ap (λ (c : Elements). listedStream (tagsIn l) c d) v in
-          ap₂ (λ (y : Answer) (z : List ℕ). record { answer = y; stream = z; expected = expected }) a b
+  -- ---- a call; m is what measuring answers
+  list-small : measure l d .number ≡ 0 → length d ≤ sizeLimit
+  unfolding measure answerTo15
+  list-small z = size-passed d (sizeAnswer d) refl (both-accepted _ _ (both-accepted _ _ z .first) .first)
 
-      by : (p : Reading Elements) → dataSet d ≡ p → CallAnswered (listCall l d out) bad out r ys
-      by (fault g) q =
-          let n : g .number ≡ 0 → ⊥ = λ z. omega (arith, faults-inside d g q .least) in
-          call-fault (listCall l d out) l d x signatureItem.Absent bad out r ys t g (whole ∙ q) n
-          (λ expected. sym (on expected ∙ or-else-second f _ k ∙ rw q (or-else-first g _ n)))
-      by (read es next) q =
-          call-read (listCall l d out) l d x signatureItem.Absent bad out r ys t es next (whole ∙ q) h (read-call es next q)
+  module _ (m : Answer) (e : m ≡ measure l d) where
+    pub list-refused : (given : ExpectedLength) (out : List ℕ) → (m .number ≡ 0 → ⊥) → CallAnswered (listCall l d out) given limit out m out
+    unfolding answer measure
+    list-refused given out h = measured-refused (answerTo15 l d) (streamIn l d) given limit out m e h
 
-    pub list-call : (x : Extent) → x ≡ wholeOf (length d) → (r : Answer) (ys : List ℕ) → AnsweredFrom10 l d x signatureItem.Absent bad out r ys → CallAnswered (listCall l d out) bad out r ys
-    list-call x w r ys t = go (eqb (f .number) 0) refl
-      where
-        go : (b : Bool) → eqb (f .number) 0 ≡ b → CallAnswered (listCall l d out) bad out r ys
-        go true q = let k = eqb-true (f .number) 0 q in by k x w r ys (t .on k) (dataSet d) refl
-        go false q = let k = eqb-false (f .number) 0 q in let v = t .refused k in rw (v .0, v .1) (list-refused k)
+    module _ (z : m .number ≡ 0) (x : Extent) (w : x ≡ wholeOf (length d)) where
+      accepts : measure l d .number ≡ 0
+      accepts = ap (λ (a : Answer). a .number) (sym e) ∙ z
+
+      pub list-measures : Measures l d x signatureItem.Absent (m .length)
+      list-measures = measures l d x signatureItem.Absent (whole-lies d x w) tt m (e ∙ measure-is (list-small accepts) x w) z
+
+      pub list-call : (given : ExpectedLength) (out : List ℕ) (r : Answer) (ys : List ℕ) → AnsweredFrom9 l d x signatureItem.Absent given out r ys
+          → CallAnswered (listCall l d out) given limit out r ys
+      unfolding answer measure
+      list-call given out r ys t =
+          let h = list-small accepts in
+          measured-on (answerTo15 l d) (streamIn l d) given limit out _ (stream-is h x w) _ (omega arith) accepts r ys t
 
 -- ---- the calls
-pub list-streamed : (l d out after : List ℕ) (a : Answer) → CallAnswered (listCall l d out) false out a after → AllFit d → Streamed (result (streamCall l d out)) d out a after
+pub list-streamed : (l d out after : List ℕ) (a : Answer) → CallAnswered (listCall l d out) (lengthOf Opt.none) limit out a after → AllFit d
+    → Streamed (result (streamCall l d out)) d out a after
 list-streamed l d out after a = call-streamed (listCall l d out) d out after a
 
-module _ (l d expected work after : List ℕ) (a : Answer) (bad : Bool) (n : bad ≡ badDigestLength (some expected))
-    (s : CallAnswered (listCall l d work) bad work a after) where
+module _ (l d expected work after : List ℕ) (a : Answer) (s : CallAnswered (listCall l d work) (lengthOf (some expected)) limit work a after) where
   pub list-room : length after ≡ length work → a .number ≡ 0 → a .length ≤ length after
-  list-room = call-room (listCall l d work) d expected work after a bad n s
+  list-room = call-room (listCall l d work) d expected work after a s
 
   pub list-checked : (r : Checked) → CheckOf a expected after r → AllFit d → CheckedAs (result (checkCall l d expected work)) d work r after
-  list-checked r = call-checked (listCall l d work) d expected work after a bad n s r refl
+  list-checked r = call-checked (listCall l d work) d expected work after a s r refl

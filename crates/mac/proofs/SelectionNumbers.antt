@@ -11,12 +11,13 @@ use Rattle.slices.specs.If.{if_then_else_}
 use Rattle.dataset.specs.Vr.{AT, CS, UI}
 use Rattle.dataset.specs.Tree.{Elements}
 use Rattle.dataset.specs.Lookup.{elementOf}
-use Rattle.mac.specs.Selection.{valueOf, need, Selection, refusal, selected, signatureItem, macIdOf, parametersItem, parametersSelect, select, badTransferSyntax, badAlgorithm}
+use Rattle.mac.specs.Selection.{valueOf, need, Algorithm, Selection, refusal, selected, signatureItem, macIdOf, parametersItem, parametersSelect, selectIn, select, badTransferSyntax, algorithmOf}
 use Rattle.dataset.specs.Tags.{macCalculationTransferSyntaxUid, macAlgorithm, dataElementsSigned}
+use Rattle.mac.specs.declared.signature_mode.Signature.{Signature}
 
 abbrev pub Numbered : Selection → Type 0
 Numbered (refusal number) = 18 ≤ number
-Numbered (selected list item) = Unit {0}
+Numbered (selected list algorithm es item) = Unit {0}
 
 needs : {A : Type 0} (number : ℕ) (o : Option A) (on : A → Selection) → 18 ≤ number → ((a : A) → Numbered (on a)) → Numbered (need number o on)
 needs number Opt.none on h k = h
@@ -27,19 +28,22 @@ unfolding if_then_else_
 tests true number s h k = h
 tests false number s h k = k
 
-parameters-numbered : (uid d : List ℕ) (item parameters : Elements) → Numbered (parametersSelect uid d item parameters)
+parameters-numbered : (uid d : List ℕ) (es item parameters : Elements) → Numbered (parametersSelect uid d es item parameters)
 unfolding parametersSelect
-parameters-numbered uid d item parameters =
+parameters-numbered uid d es item parameters =
     tests (badTransferSyntax uid (valueOf UI (elementOf macCalculationTransferSyntaxUid parameters) d)) 21 _ (omega arith)
-    (tests (badAlgorithm (valueOf CS (elementOf macAlgorithm parameters) d)) 22 _ (omega arith)
-    (needs 23 (valueOf AT (elementOf dataElementsSigned parameters) d) (λ list. selected list item) (omega arith) λ list. tt))
+    (needs 22 (algorithmOf (valueOf CS (elementOf macAlgorithm parameters) d)) listed (omega arith) λ algorithm.
+    needs 23 (valueOf AT (elementOf dataElementsSigned parameters) d) (λ list. selected list algorithm es item) (omega arith) λ list. tt)
+  where
+    listed : Algorithm → Selection
+    listed algorithm = need 23 (valueOf AT (elementOf dataElementsSigned parameters) d) λ list. selected list algorithm es item
 
-pub select-numbered : (uid : List ℕ) (number : ℕ) (es : Elements) (d : List ℕ) → Numbered (select uid number es d)
-unfolding select
-select-numbered uid number es d =
-    needs 18 (signatureItem number es) _ (omega arith) λ item.
-    needs 19 (macIdOf item d) (λ id. need 20 (parametersItem id es d) (parametersSelect uid d item)) (omega arith) λ id.
-    needs 20 (parametersItem id es d) (parametersSelect uid d item) (omega arith) (parameters-numbered uid d item)
+pub select-numbered : (uid : List ℕ) (which : Signature) (whole : Elements) (d : List ℕ) (es : Elements) → Numbered (selectIn uid which whole d es)
+unfolding selectIn
+select-numbered uid which whole d es =
+    needs 18 (signatureItem which es) _ (omega arith) λ item.
+    needs 19 (macIdOf item d) (λ id. need 20 (parametersItem id es d) (parametersSelect uid d es item)) (omega arith) λ id.
+    needs 20 (parametersItem id es d) (parametersSelect uid d es item) (omega arith) (parameters-numbered uid d es item)
 
-pub selected-number : (uid : List ℕ) (number : ℕ) (es : Elements) (d : List ℕ) (k : ℕ) → select uid number es d ≡ refusal k → k ≢ 0
-selected-number uid number es d k e z = let n : Numbered (refusal k) = rw e at (select-numbered uid number es d) in omega arith
+pub selected-number : (uid : List ℕ) (which : Signature) (es : Elements) (d : List ℕ) (k : ℕ) → select uid which es d ≡ refusal k → k ≢ 0
+selected-number uid which es d k e z = let n : Numbered (refusal k) = rw e at (select-numbered uid which es d es) in omega arith

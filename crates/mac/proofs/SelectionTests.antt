@@ -1,7 +1,7 @@
 -- The tests of the selection, place by place, with the facts of the place as premises. Assumes nothing.
 use Prim.Native.Nat.{ℕ, _+_, _-_, _≤_, _<_}
 use mathlib.Core.Path.{_≡_, refl, sym, ap, _∙_}
-use mathlib.Core.Bool.{Bool, true, false, not, _&&_}
+use mathlib.Core.Bool.{Bool, true, false, _&&_}
 use mathlib.Core.List.{List, [], _∷_}
 use mathlib.Core.Option.{Option, some}
 use mathlib.Core.Option as Opt
@@ -15,30 +15,34 @@ use Rattle.slices.specs.Lists.{between, sameBytes, allAre}
 use Rattle.dataset.specs.Vr.{US}
 use Rattle.dataset.specs.Tree.{Element}
 use Rattle.dataset.specs.Lookup.{elementOf}
-use Rattle.mac.specs.Selection.{valueOf, twoBytes, macIdOf, lessNul, implicitVrLittleEndian, explicitVrBigEndian, badTransferSyntax, SHA256, isTerm, badAlgorithm}
+use Rattle.mac.specs.Selection.{valueOf, twoBytes, macIdOf, lessNul, implicitVrLittleEndian, explicitVrBigEndian, badTransferSyntax, SHA256, isTerm, algorithmOf}
 use Rattle.dataset.specs.Tags.{macIdNumber}
 use Rattle.dataset.specs.Place.{Placed}
 use Rattle.dataset.specs.Inner.Place.{PlaceLies}
-use Rattle.mac.specs.Inner.Selection.{KeyLies, Tests, SameMacId, TestsKey, LessNul}
+use Rattle.mac.specs.Inner.Selection.{KeyLies, keyOf, Tests, SameMacId, TestsKey, LessNul, foundCase}
 use Rattle.dataset.specs.declared.seek.Place.{Place}
 use Rattle.dataset.specs.declared.seek.Place.the-variants as place
 use Rattle.mac.specs.declared.selection.ItemKey.{ItemKey}
 use Rattle.mac.specs.declared.selection.ItemKey.the-variants as key
+use Rattle.mac.specs.declared.selection.Algorithm.the-variants as algorithm
+use Rattle.mac.specs.declared.selection.FoundAlgorithm.the-variants as foundAlgorithm
+use Rattle.mac.specs.declared.signature_mode.Signature.{Signature}
+use Rattle.mac.specs.declared.signature_mode.Signature.the-variants as signature
 use Rattle.slices.proofs.laws.Parts.{length-between, drop-one}
 use Rattle.slices.proofs.laws.Comparing.{same-lengths}
 use Rattle.mac.proofs.PlaceValues.{NoValue, no-value, value-order, value-inside, value-at}
 
 -- ---- a test of the value in a place
-module _ (want : ℕ) (test : Option (List ℕ) → Bool) (d : List ℕ) (p : Place) (r : Bool) where
-  pub test-none : NoValue p → r ≡ test Opt.none → Tests want test d p r
+module _ (A : Type 0) (want : ℕ) (test : Option (List ℕ) → A) (d : List ℕ) (p : Place) (r : A) where
+  pub test-none : NoValue p → r ≡ test Opt.none → Tests A want test d p r
   test-none h w = record { says = λ o q. rw (no-value d p want o h q) w }
 
   module _ (vr start end : ℕ) (is : p ≡ place.Value vr start end) where
-    pub test-other : (vr ≡ want → ⊥) → r ≡ test Opt.none → Tests want test d p r
+    pub test-other : (vr ≡ want → ⊥) → r ≡ test Opt.none → Tests A want test d p r
     unfolding if_then_else_
     test-other h w = record { says = λ o q. rw (value-at d p vr start end is want o q, ne-eqb vr want h) w }
 
-    pub test-value : vr ≡ want → r ≡ test (some (take (end - start) (drop start d))) → Tests want test d p r
+    pub test-value : vr ≡ want → r ≡ test (some (take (end - start) (drop start d))) → Tests A want test d p r
     unfolding if_then_else_ between
     test-value h w = record { says = λ o q. rw (value-at d p vr start end is want o q, eq-eqb vr want h) w }
 
@@ -78,6 +82,17 @@ module _ (d : List ℕ) (w : ItemKey) (index : ℕ) (id : Place) where
     pub key-id : (r : Bool) → SameMacId d id start end r → TestsKey d w index id r
     unfolding macIdOf
     key-id r h es q = rw e (h .says (elementOf macIdNumber es) q)
+
+-- the signature item's
+pub key-given : (which : Signature) (number : ℕ) → which ≡ signature.Number number → key.Number number ≡ keyOf which
+key-given which number e = rw e
+
+pub signature-key : (d : List ℕ) (which : Signature) (w : ItemKey) → w ≡ keyOf which → KeyLies d w
+signature-key d which w e = rw e (by which)
+  where
+    by : (which : Signature) → KeyLies d (keyOf which)
+    by signature.Unnamed = tt
+    by (signature.Number number) = tt
 
 -- ---- 21
 same-byte : (l : List ℕ) (i : ℕ) → i < length l → getD l i 1 ≡ getD l i 0
@@ -139,6 +154,11 @@ module _ (value : List ℕ) (b : Bool) (e : b ≡ sameBytes (take 6 value) SHA25
   unfolding isTerm
   term-spaces r t w = rw (← e, t) (w ∙ ap (allAre 0x20) (take-all (length value - 6) (drop 6 value) (simp length-drop (omega arith))))
 
-pub not-term : (value : List ℕ) (b : Bool) → b ≡ isTerm SHA256 value → not b ≡ badAlgorithm (some value)
-unfolding badAlgorithm
-not-term value b e = rw e
+module _ (value : List ℕ) (b : Bool) (e : b ≡ isTerm SHA256 value) where
+  pub term-unknown : b ≡ false → foundAlgorithm.Absent ≡ foundCase (algorithmOf (some value))
+  unfolding algorithmOf if_then_else_
+  term-unknown t = rw (← e, t)
+
+  pub term-known : b ≡ true → foundAlgorithm.Named algorithm.Sha256 ≡ foundCase (algorithmOf (some value))
+  unfolding algorithmOf if_then_else_
+  term-known t = rw (← e, t)

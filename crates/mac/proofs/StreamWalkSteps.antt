@@ -7,11 +7,9 @@ use mathlib.Core.List.{List}
 use native.Mathlib.Omega.{arith}
 use lib.ListN.{length, length-append}
 use lib.Seq.{sets}
-use borrow.Author.Tests.{eqb-true, eqb-false}
-use lib.Dec.{eqb}
 use Rattle.answer.specs.declared.Answer.{Answer}
 use Rattle.answer.specs.Answer.{accepted, _orElse_}
-use Rattle.answer.proofs.laws.Chain.{or-else-first, or-else-second, both-accepted}
+use Rattle.answer.proofs.laws.Chain.{or-else-second, or-else-refuses, both-accepted}
 use Rattle.dataset.specs.Tree.{Elements}
 use Rattle.dataset.specs.Reading.{Reading, fault, read, explicit, elementsAt, treeOf}
 use Rattle.dataset.proofs.laws.reading.Bounded.{explicit-bounded}
@@ -86,17 +84,9 @@ module _ (l d : List ℕ) (x : Extent) (a : Answer) (xs ys : List ℕ) (lies : L
   refused-by : (follows : SignatureItem) (p : Reading Elements) → a ≡ listedAnswer (accepted 0) 0 (tagsIn l) d p → (a .number ≡ 0 → ⊥) → a ≡ walkAnswer (tagsIn l) d follows p
   unfolding listedAnswer walkAnswer by-tags
   refused-by follows (fault f) q h = q
-  refused-by follows (read es n) q h = go (eqb (t .number) 0) refl
-    where
-      t : Answer
-      t = tagsAnswer 0 (tagsIn l) es
-
-      r : a ≡ (t orElse accepted (length (listedStream (tagsIn l) es d)))
-      r = q ∙ listed-is (tagsIn l) d es n
-
-      go : (b : Bool) → eqb (t .number) 0 ≡ b → a ≡ (t orElse accepted (length (wholeStream (tagsIn l) es d follows)))
-      go true e = absurd (h (ap (λ (z : Answer). z .number) (r ∙ or-else-second t _ (eqb-true (t .number) 0 e))))
-      go false e = let n = eqb-false (t .number) 0 e in r ∙ or-else-first t _ n ∙ sym (or-else-first t _ n)
+  refused-by follows (read es n) q h =
+      let r = q ∙ listed-is (tagsIn l) d es n in
+      r ∙ or-else-refuses (tagsAnswer 0 (tagsIn l) es) (accepted (length (listedStream (tagsIn l) es d))) _ refl (λ z. h (ap (λ (x : Answer). x .number) r ∙ z))
 
   refused-leaves : (follows : SignatureItem) (p : Reading Elements) → a ≡ walkAnswer (tagsIn l) d follows p → (a .number ≡ 0 → ⊥) → StreamLeaves (tagsIn l) d follows p xs ys
   unfolding StreamLeaves

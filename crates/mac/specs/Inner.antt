@@ -4,5 +4,5 @@ pub mod Writer
 pub mod Listed
 pub mod Own
 pub mod Selection
-pub mod Calls
 pub mod Verdict
+pub mod Calls

@@ -10,11 +10,11 @@ use lib.ListN.{length}
 use Rattle.slices.specs.If.{if_then_else_}
 use Rattle.answer.specs.declared.Answer.{Answer}
 use Rattle.answer.specs.Answer.{accepted, refused, _orElse_}
-use Rattle.dataset.specs.Reading.{sizeLimit, dataSet, answerOf, tree}
+use Rattle.dataset.specs.Reading.{sizeAnswer, dataSet, answerOf, tree}
 use Rattle.mac.specs.TagList.{tagsIn, listAnswer}
 use Rattle.mac.specs.Content.{SignedElements, content}
 use Rattle.mac.specs.Stream.{listedStream}
-use Rattle.mac.specs.Modes.{answerFrom13}
+use Rattle.mac.specs.Modes.{tagsAnswer, answerFrom9}
 use Rattle.mac.specs.Result.{Result}
 
 -- A call in list mode, for the stream or for the check: the list, the data set, the output room (a term of RULES 7.2: "how many bytes the
@@ -30,18 +30,30 @@ pub record Call : Type 0 where
 unfoldable pub contentOf : Call → Option SignedElements
 contentOf c = content (tagsIn (c .list)) (tree (c .set)) (c .set)
 
--- the call's stream
-unfoldable pub stream : Call → List ℕ
-stream c = listedStream (tagsIn (c .list)) (tree (c .set)) (c .set)
+-- the stream of a list in a data set
+unfoldable pub streamIn : (list set : List ℕ) → List ℕ
+streamIn list set = listedStream (tagsIn list) (tree set) set
 
--- 9.4: "1; 10; 11 over the whole list; 12 over the whole list; 2 to 8; then for each tag in turn 13, 14, 15; then 9, 16".
+-- the call's stream
+abbrev pub stream : Call → List ℕ
+stream c = streamIn (c .list) (c .set)
+
+-- 9.4 up to 15: "1; 10; 11 over the whole list; 12 over the whole list; 2 to 8; then for each tag in turn 13, 14, 15".
 -- 1 stands in `dataSet` too; here it comes before the list.
+unfoldable pub answerTo15 : (list set : List ℕ) → Answer
+answerTo15 list set =
+    sizeAnswer set
+    orElse listAnswer list
+    orElse answerOf (dataSet set)
+    orElse tagsAnswer 0 (tagsIn list) (tree set)
+
+-- what measuring answers: the order up to 15; or else the stream's length
+unfoldable pub measure : (list set : List ℕ) → Answer
+measure list set = answerTo15 list set orElse accepted (length (streamIn list set))
+
+-- 9.4: the order up to 15; "then 9, 16"
 unfoldable pub answer : Call → Answer
-answer c =
-    (if ltb sizeLimit (length (c .set)) then refused 1 0 else accepted 0)
-    orElse listAnswer (c .list)
-    orElse answerOf (dataSet (c .set))
-    orElse answerFrom13 (tagsIn (c .list)) (tree (c .set)) (stream c) (c .room) (c .expected)
+answer c = answerTo15 (c .list) (c .set) orElse answerFrom9 (stream c) (c .room) (c .expected)
 
 -- what the call comes to
 abbrev pub result : Call → Result

@@ -1,4 +1,5 @@
--- What list mode and signature mode share: the end of the order, "then for each tag in turn 13, 14, 15; then 9, 16" (RULES, 9.4, 9.5).
+-- What list mode and signature mode share: the end of the order, "then for each tag in turn 13, 14, 15; then 9, 16" (RULES, 9.4, 9.5). It is
+-- cut behind 15: up to there neither the output room nor the expected digest counts.
 -- Assumes nothing.
 use Prim.Native.Nat.{ℕ, _+_}
 use mathlib.Core.Bool.{Bool, false, not}
@@ -29,11 +30,10 @@ abbrev pub badDigestLength : Option (List ℕ) → Bool
 badDigestLength Opt.none = false
 badDigestLength (some e) = not (eqb (length e) 32)
 
--- "then for each tag in turn 13, 14, 15; then 9, 16", alike in both modes (9.4, 9.5): the tags of the list, in a data set whose elements
--- are es; the stream; the output room; the expected digest. 16: "the output room is less than the stream's length" (9.3)
-unfoldable pub answerFrom13 : (tags : List ℕ) → Elements → (stream : List ℕ) (room : ℕ) (expected : Option (List ℕ)) → Answer
-answerFrom13 tags es stream room expected =
-    tagsAnswer 0 tags es
-    orElse (if badDigestLength expected then refused 9 0 else accepted 0)
+-- "then 9, 16", alike in both modes (9.4, 9.5): by the stream, the output room and the expected digest. 16: "the output room is less than
+-- the stream's length" (9.3). 7.3: "the answer's length is the stream's."
+unfoldable pub answerFrom9 : (stream : List ℕ) (room : ℕ) (expected : Option (List ℕ)) → Answer
+answerFrom9 stream room expected =
+    (if badDigestLength expected then refused 9 0 else accepted 0)
     orElse (if ltb room (length stream) then refused 16 0 else accepted 0)
     orElse accepted (length stream)

@@ -1,5 +1,5 @@
--- Which signature item, parameters item and list signature mode takes: docs/RULES.md, 8.1 to 8.3; 18 to 23 (9.3). The definitions are over
--- the elements of a data set: those of the whole, or of an item, which "is again a data set" (2.2).
+-- Which signature item, parameters item, algorithm and list signature mode takes: docs/RULES.md, 8.1 to 8.3; 18 to 23 (9.3). The
+-- definitions are over the elements of a data set: those of the whole, or of an item, which "is again a data set" (2.2).
 -- Assumes nothing.
 use Prim.Native.Nat.{ℕ, _+_, _-_}
 use mathlib.Core.Bool.{Bool, true, false, not, _&&_, _||_}
@@ -45,15 +45,15 @@ itemWhere test (some items) = firstItem test 0 items
 
 -- ---- the signature item (a term of RULES 8.2: an item of the Digital Signatures Sequence)
 
--- 8.1: "signatures are counted from 0. Where no number is given, 0 is taken."
-abbrev pub numberOf : Signature → ℕ
-numberOf signature.Unnamed = 0
-numberOf (signature.Number n) = n
+-- 8.2: "the item with the signature's number in the top level's (FFFA,FFFA)"; 8.1: "signatures are counted from 0."
+abbrev pub itemNumbered : (number : ℕ) → Elements → Option Elements
+itemNumbered number es = itemWhere (λ index item. eqb index number) (itemsOf (elementOf digitalSignaturesSequence es))
 
--- 8.2: "the item with the signature's number in the top level's (FFFA,FFFA)". 18: "there is no (FFFA,FFFA) with VR SQ, or it has no item
--- with the signature's number" (9.3)
-unfoldable pub signatureItem : (number : ℕ) → Elements → Option Elements
-signatureItem number es = itemWhere (λ index item. eqb index number) (itemsOf (elementOf digitalSignaturesSequence es))
+-- by the caller's choice. 8.1: "Where no number is given, 0 is taken." 18: "there is no (FFFA,FFFA) with VR SQ, or it has no item with the
+-- signature's number" (9.3)
+unfoldable pub signatureItem : Signature → Elements → Option Elements
+signatureItem signature.Unnamed es = itemNumbered 0 es
+signatureItem (signature.Number number) es = itemNumbered number es
 
 -- ---- the parameters item (a term of RULES 8.2: an item of the MAC Parameters Sequence)
 
@@ -103,6 +103,10 @@ badTransferSyntax uid (some value) =
 
 -- ---- the algorithm, 22
 
+-- the algorithms that a signature may name
+pub data Algorithm : Type 0 where
+  ofSHA256 : Algorithm
+
 -- "SHA256"
 abbrev pub SHA256 : List ℕ
 SHA256 = 0x53 ∷ 0x48 ∷ 0x41 ∷ 0x32 ∷ 0x35 ∷ 0x36 ∷ []
@@ -111,36 +115,42 @@ SHA256 = 0x53 ∷ 0x48 ∷ 0x41 ∷ 0x32 ∷ 0x35 ∷ 0x36 ∷ []
 unfoldable pub isTerm : (term value : List ℕ) → Bool
 isTerm term value = sameBytes (take (length term) value) term && allAre 0x20 (drop (length term) value)
 
--- 22: "(0400,0015) is absent, is not CS, or is not SHA256, spaces at its end aside" (9.3)
-unfoldable pub badAlgorithm : Option (List ℕ) → Bool
-badAlgorithm Opt.none = true
-badAlgorithm (some value) = not (isTerm SHA256 value)
+-- the algorithm of a value, or none. 22: "(0400,0015) is absent, is not CS, or is not SHA256, spaces at its end aside" (9.3)
+unfoldable pub algorithmOf : Option (List ℕ) → Option Algorithm
+algorithmOf Opt.none = Opt.none
+algorithmOf (some value) = if isTerm SHA256 value then some Algorithm.ofSHA256 else Opt.none
 
 -- ---- the selection, 18 to 23
 
--- what it gives: the number of a refusal; or the list (8.3: "The list is the value of (0400,0020) of the parameters item.") and the
--- elements of the signature item
+-- what it gives: the number of a refusal; or the list (8.3: "The list is the value of (0400,0020) of the parameters item."), the algorithm,
+-- the elements of the data set that is signed, and those of the signature item
 pub data Selection : Type 0 where
   refusal : (number : ℕ) → Selection
-  selected : (list : List ℕ) (item : Elements) → Selection
+  selected : (list : List ℕ) (algorithm : Algorithm) (elements item : Elements) → Selection
 
 -- what is needed next, or the number that is given where it is not there
 abbrev pub need : {A : Type 0} → (number : ℕ) → Option A → (A → Selection) → Selection
 need number Opt.none on = refusal number
 need number (some a) on = on a
 
--- 8.3: "The numbers 21 to 23 are about this same item." 23: "(0400,0020) is absent or is not AT" (9.3). `item` is the signature item.
-unfoldable pub parametersSelect : (uid d : List ℕ) (item parameters : Elements) → Selection
-parametersSelect uid d item parameters =
+-- 8.3: "The numbers 21 to 23 are about this same item." 23: "(0400,0020) is absent or is not AT" (9.3). `item` is the signature item, of a
+-- data set whose elements are es.
+unfoldable pub parametersSelect : (uid d : List ℕ) (es item parameters : Elements) → Selection
+parametersSelect uid d es item parameters =
     if badTransferSyntax uid (valueOf UI (elementOf macCalculationTransferSyntaxUid parameters) d) then refusal 21 else
-    if badAlgorithm (valueOf CS (elementOf macAlgorithm parameters) d) then refusal 22 else
+    need 22 (algorithmOf (valueOf CS (elementOf macAlgorithm parameters) d)) λ algorithm.
     need 23 (valueOf AT (elementOf dataElementsSigned parameters) d) λ list.
-    selected list item
+    selected list algorithm es item
 
--- "18 to 23" (9.5), in a data set whose elements are es
-unfoldable pub select : (uid : List ℕ) (number : ℕ) → Elements → (d : List ℕ) → Selection
-select uid number es d =
-    need 18 (signatureItem number es) λ item.
+-- "18 to 23" (9.5), in a data set whose elements are es, of an instance whose elements are `whole`. No number is about `whole`: in every
+-- call the two are the same data set.
+unfoldable pub selectIn : (uid : List ℕ) → Signature → (whole : Elements) (d : List ℕ) (es : Elements) → Selection
+selectIn uid which whole d es =
+    need 18 (signatureItem which es) λ item.
     need 19 (macIdOf item d) λ id.
     need 20 (parametersItem id es d) λ parameters.
-    parametersSelect uid d item parameters
+    parametersSelect uid d es item parameters
+
+-- what a call selects, in the whole instance. 8.2: "in the top level's (FFFA,FFFA)"
+abbrev pub select : (uid : List ℕ) → Signature → (whole : Elements) (d : List ℕ) → Selection
+select uid which whole d = selectIn uid which whole d whole

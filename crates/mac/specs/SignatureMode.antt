@@ -10,16 +10,16 @@ use lib.Dec.{eqb}
 use lib.ListN.{length}
 use Rattle.slices.specs.If.{if_then_else_}
 use Rattle.answer.specs.declared.Answer.{Answer}
-use Rattle.answer.specs.Answer.{refused, _orElse_}
+use Rattle.answer.specs.Answer.{accepted, refused, _orElse_}
 use Rattle.dataset.specs.Tags.{certificateOfSigner, signatureValue, certifiedTimestampType, certifiedTimestamp}
 use Rattle.dataset.specs.Tree.{Element, Elements, tagOf}
 use Rattle.dataset.specs.Reading.{dataSet, answerOf, tree}
 use Rattle.mac.specs.TagList.{barred, tagsIn, listAnswer}
 use Rattle.mac.specs.Stream.{elementsStream, listedStream}
 use Rattle.mac.specs.UN.{isUN, holdsUN}
-use Rattle.mac.specs.Modes.{answerFrom13}
+use Rattle.mac.specs.Modes.{tagsAnswer, answerFrom9}
 use Rattle.mac.specs.Result.{Result}
-use Rattle.mac.specs.Selection.{Selection, refusal, selected, numberOf, select}
+use Rattle.mac.specs.Selection.{Selection, refusal, selected, select}
 use Rattle.mac.specs.declared.signature_mode.Signature.{Signature}
 
 -- ---- the signature item's own elements
@@ -42,16 +42,28 @@ own (Elements.and e rest) = if leftOut e then own rest else Elements.and e (own 
 
 -- ---- what is written
 
--- the stream. 8.4: "After the listed elements the stream goes on with the signature item's own elements, by section 5."
-unfoldable pub streamBy : Selection → Elements → (d : List ℕ) → List ℕ
-streamBy (refusal number) es d = []
-streamBy (selected list item) es d = listedStream (tagsIn list) es d ++ elementsStream (own item) d
+-- the stream, by what is selected. 8.4: "After the listed elements the stream goes on with the signature item's own elements, by
+-- section 5."
+unfoldable pub streamBy : Selection → (d : List ℕ) → List ℕ
+streamBy (refusal number) d = []
+streamBy (selected list algorithm es item) d = listedStream (tagsIn list) es d ++ elementsStream (own item) d
 
--- 9.5: "18 to 23; 10; 11; 12; then for each tag in turn 13, 14, 15; then 9, 16"
-unfoldable pub answerBy : Selection → Elements → (d : List ℕ) (room : ℕ) (expected : Option (List ℕ)) → Answer
-answerBy (refusal number) es d room expected = refused number 0
-answerBy (selected list item) es d room expected =
-    listAnswer list orElse answerFrom13 (tagsIn list) es (streamBy (selected list item) es d) room expected
+-- 9.5 from 18 on, up to 15: "18 to 23; 10; 11; 12; then for each tag in turn 13, 14, 15"
+unfoldable pub selectionAnswer : Selection → Answer
+selectionAnswer (refusal number) = refused number 0
+selectionAnswer (selected list algorithm es item) = listAnswer list orElse tagsAnswer 0 (tagsIn list) es
+
+-- the stream of a signature in a data set
+unfoldable pub streamIn : (uid : List ℕ) (which : Signature) (set : List ℕ) → List ℕ
+streamIn uid which set = streamBy (select uid which (tree set) set) set
+
+-- 9.5 up to 15: "1; 2 to 8; 18 to 23; 10; 11; 12; then for each tag in turn 13, 14, 15". 1 stands in `dataSet`.
+unfoldable pub answerTo15 : (uid : List ℕ) (which : Signature) (set : List ℕ) → Answer
+answerTo15 uid which set = answerOf (dataSet set) orElse selectionAnswer (select uid which (tree set) set)
+
+-- what measuring answers: the order up to 15; or else the stream's length
+unfoldable pub measure : (uid : List ℕ) (which : Signature) (set : List ℕ) → Answer
+measure uid which set = answerTo15 uid which set orElse accepted (length (streamIn uid which set))
 
 -- ---- a call
 
@@ -67,15 +79,15 @@ pub record Call : Type 0 where
 
 -- what the call selects: "18 to 23" (9.5)
 abbrev pub selection : Call → Selection
-selection c = select (c .uid) (numberOf (c .which)) (tree (c .set)) (c .set)
+selection c = select (c .uid) (c .which) (tree (c .set)) (c .set)
 
 -- the call's stream
-unfoldable pub stream : Call → List ℕ
-stream c = streamBy (selection c) (tree (c .set)) (c .set)
+abbrev pub stream : Call → List ℕ
+stream c = streamIn (c .uid) (c .which) (c .set)
 
--- 9.5: "1; 2 to 8; 18 to 23; 10; 11; 12; then for each tag in turn 13, 14, 15; then 9, 16". 1 stands in `dataSet`.
+-- 9.5: the order up to 15; "then 9, 16"
 unfoldable pub answer : Call → Answer
-answer c = answerOf (dataSet (c .set)) orElse answerBy (selection c) (tree (c .set)) (c .set) (c .room) (c .expected)
+answer c = answerTo15 (c .uid) (c .which) (c .set) orElse answerFrom9 (stream c) (c .room) (c .expected)
 
 -- what the call comes to
 abbrev pub result : Call → Result

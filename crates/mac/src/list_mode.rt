@@ -1,37 +1,61 @@
-// List mode: the stream from a list of tags alone, and the check of its digest.
+// List mode: the stream from a list of tags alone, its measuring, and the check of its digest.
 use crate::modes;
 use crate::modes::SignatureItem;
 use crate::verdict;
 use crate::verdict::Checked;
+use crate::verdict::ExpectedLength;
 use answer::Answer;
 use dataset::extent;
 use dataset::reading;
+ghost use mathlib.Core.Path.{_≡_};
+ghost use Rattle.digest.specs.Message.{limit};
 ghost use Rattle.mac.specs.Result.{Streamed, CheckedAs};
-ghost use Rattle.mac.specs.ListMode.{streamCall, checkCall, result};
+ghost use Rattle.mac.specs.ListMode.{measure, streamCall, checkCall, result};
 ghost use Rattle.mac.specs.Inner.Calls.{listCall, CallAnswered};
 
-// The answer of a call, by whether its expected digest is not 32 bytes; where it is accepted the stream is written.
-fn list_call(list: &[u8], d: &[u8], bad_digest_length: bool, out: &mut [u8]) -> Answer
-    ensures { λ r. ⌜ CallAnswered (listCall (now (list .entry)) (now (d .entry)) (now (out .entry))) «bad_digest_length» (now (out .entry)) r (now (out .exit)) ⌝ }
+// Measures the stream of a list in a data set: the answer of a call for the stream with room enough. Nothing is written.
+pub fn list_measure(list: &[u8], d: &[u8]) -> Answer
+    ensures { λ r. ⌜ r ≡ measure (now (list .entry)) (now (d .entry)) ⌝ }
 {
-    if reading::SIZE_LIMIT < d.len() {
-        return Answer::refused(1, 0);
+    let size = reading::size_answer(d);
+    if size.number != 0 {
+        return size;
     }
     let x = extent::whole(d.len());
-    modes::answer_from_10(list, d, x, SignatureItem::Absent, bad_digest_length, out)
+    modes::measure(list, d, x, SignatureItem::Absent)
+}
+
+// The answer of a call, by the length of its expected digest; where it is accepted the stream is written.
+fn list_call(list: &[u8], d: &[u8], expected: ExpectedLength, out: &mut [u8]) -> Answer
+    ensures { λ r. ⌜ CallAnswered (listCall (now (list .entry)) (now (d .entry)) (now (out .entry))) expected limit (now (out .entry)) r (now (out .exit)) ⌝ }
+{
+    let answer = list_measure(list, d);
+    if answer.number != 0 {
+        return answer;
+    }
+    let x = extent::whole(d.len());
+    modes::answer_from_9(
+        list,
+        d,
+        x,
+        SignatureItem::Absent,
+        answer.length,
+        expected,
+        out,
+    )
 }
 
 // The stream of a list in a data set, into the output.
 pub fn list_stream(list: &[u8], d: &[u8], out: &mut [u8]) -> Answer
     ensures { λ r. ⌜ Streamed (result (streamCall (now (list .entry)) (now (d .entry)) (now (out .entry)))) (now (d .entry)) (now (out .entry)) r (now (out .exit)) ⌝ }
 {
-    list_call(list, d, false, out)
+    list_call(list, d, ExpectedLength::Absent, out)
 }
 
 // The check of the stream's digest: the stream is written into the work buffer.
 pub fn list_check(list: &[u8], d: &[u8], expected: &[u8], work: &mut [u8]) -> Checked
     ensures { λ r. ⌜ CheckedAs (result (checkCall (now (list .entry)) (now (d .entry)) (now (expected .entry)) (now (work .entry)))) (now (d .entry)) (now (work .entry)) r (now (work .exit)) ⌝ }
 {
-    let answer = list_call(list, d, verdict::bad_digest_length(expected), work);
+    let answer = list_call(list, d, ExpectedLength::Length(expected.len()), work);
     verdict::check_of(answer, expected, work)
 }

@@ -1,16 +1,17 @@
-// What both modes share: the tag list, the end of the order from 13 on, and the stream in the output.
+// What both modes share: measuring, which is the order from 10 up to 15 and the stream's length; then 9, 16 and the writing.
 use crate::listed;
 use crate::own;
 use crate::tag_list;
+use crate::verdict;
+use crate::verdict::ExpectedLength;
 use crate::writer::Written;
 use answer::Answer;
 use dataset::extent::Extent;
 ghost use mathlib.Core.Path.{_≡_};
-ghost use lib.ListN.{length};
 ghost use Rattle.answer.specs.Answer as Spec;
 ghost use Rattle.mac.specs.TagList.{tagsIn, ascendingAnswer};
 ghost use Rattle.dataset.specs.Place.{Lies};
-ghost use Rattle.mac.specs.Inner.Calls.{SignatureItemReads, StreamWalk, AnsweredFrom13, AnsweredFrom10};
+ghost use Rattle.mac.specs.Inner.Calls.{SignatureItemReads, StreamWalk, measureIn, Measures, AnsweredFrom9};
 
 // The signature item, whose own elements follow the listed ones; list mode has none.
 pub(crate) enum SignatureItem {
@@ -40,48 +41,37 @@ fn write_stream(list: &[u8], d: &[u8], x: Extent, item: SignatureItem, out: &mut
     }
 }
 
-// The answer from 13 on, by whether the expected digest is not 32 bytes; where it is accepted the stream is written. The first
-// walk measures.
-fn answer_from_13(
-    list: &[u8],
-    d: &[u8],
-    x: Extent,
-    item: SignatureItem,
-    bad_digest_length: bool,
-    out: &mut [u8],
-) -> Answer
-    requires { ⌜ (ascendingAnswer 0 0 (tagsIn (now list)) ≡ Spec.accepted 0) × Lies (now d) x × SignatureItemReads (now d) item ⌝ }
-    ensures { λ r. ⌜ AnsweredFrom13 (now (list .entry)) (now (d .entry)) x item «bad_digest_length» (now (out .entry)) r (now (out .exit)) ⌝ }
-{
-    let mut nothing = [0u8; 0];
-    let answer = write_stream(list, d, x, item, &mut nothing);
-    if answer.number != 0 {
-        return answer;
-    }
-    if bad_digest_length {
-        return Answer::refused(9, 0);
-    }
-    if out.len() < answer.length {
-        return Answer::refused(16, 0);
-    }
-    write_stream(list, d, x, item, out)
-}
-
-// The answer of the list and from 13 on; where it is accepted the stream is written.
-pub(crate) fn answer_from_10(
-    list: &[u8],
-    d: &[u8],
-    x: Extent,
-    item: SignatureItem,
-    bad_digest_length: bool,
-    out: &mut [u8],
-) -> Answer
+// Measures: 10 to 15, or the stream's length. Nothing is written.
+pub(crate) fn measure(list: &[u8], d: &[u8], x: Extent, item: SignatureItem) -> Answer
     requires { ⌜ Lies (now d) x × SignatureItemReads (now d) item ⌝ }
-    ensures { λ r. ⌜ AnsweredFrom10 (now (list .entry)) (now (d .entry)) x item «bad_digest_length» (now (out .entry)) r (now (out .exit)) ⌝ }
+    ensures { λ r. ⌜ r ≡ measureIn (now (list .entry)) (now (d .entry)) x item ⌝ }
 {
     let answer = tag_list::list_answer(list);
     if answer.number != 0 {
         return answer;
     }
-    answer_from_13(list, d, x, item, bad_digest_length, out)
+    let mut nothing = [0u8; 0];
+    write_stream(list, d, x, item, &mut nothing)
+}
+
+// 9 and 16, of a stream that is measured; where neither is given it is written.
+pub(crate) fn answer_from_9(
+    list: &[u8],
+    d: &[u8],
+    x: Extent,
+    item: SignatureItem,
+    length: usize,
+    expected: ExpectedLength,
+    out: &mut [u8],
+) -> Answer
+    requires { ⌜ Measures (now list) (now d) x item length ⌝ }
+    ensures { λ r. ⌜ AnsweredFrom9 (now (list .entry)) (now (d .entry)) x item expected (now (out .entry)) r (now (out .exit)) ⌝ }
+{
+    if verdict::bad_digest_length(expected) {
+        return Answer::refused(9, 0);
+    }
+    if out.len() < length {
+        return Answer::refused(16, 0);
+    }
+    write_stream(list, d, x, item, out)
 }

@@ -1,4 +1,5 @@
-// What signature mode selects, 18 to 23: the signature item, and the list of its MAC parameters item.
+// What signature mode selects, 18 to 23: the signature item, and the algorithm and the list of its MAC parameters item.
+use crate::signature_mode::Signature;
 use answer::Answer;
 use dataset::extent;
 use dataset::extent::Extent;
@@ -20,7 +21,7 @@ ghost use Rattle.mac.specs.Selection.{badTransferSyntax, SHA256, isTerm}
 ghost use Rattle.dataset.specs.Place.{Lies};
 ghost use Rattle.dataset.specs.Extent.{elementsIn, itemsIn};
 ghost use Rattle.dataset.specs.Inner.Place.{PlaceLies, Located};
-ghost use Rattle.mac.specs.Inner.Selection.{SameMacId, KeyLies, TestsKey, FoundItemIn, FoundItemUnder, LessNul, BadSyntax, BadAlgorithm, ListOf, SelectOf, SelectedIn};
+ghost use Rattle.mac.specs.Inner.Selection.{SameMacId, KeyLies, TestsKey, FoundItemIn, FoundItemUnder, LessNul, BadSyntax, AlgorithmOf, ListOf, keyOf, SelectOf, SelectedIn};
 ghost use Rattle.mac.specs.declared.selection.Selection.the-variants as selection;
 
 // By what an item of a sequence is found: its number from 0, or its MAC ID Number, the bytes of the data set from start to end.
@@ -39,14 +40,31 @@ pub(crate) enum FoundItem {
     },
 }
 
-// What is selected: a refusal; or the list, the bytes of the data set from start to end, and the data set of the signature item.
+// The algorithms that a signature may name.
+pub(crate) enum Algorithm {
+    Sha256,
+}
+
+// The algorithm that a signature names; or none of them.
+pub(crate) enum FoundAlgorithm {
+    Absent,
+    Named(Algorithm),
+}
+
+// What is selected: the list, the bytes of the data set from start to end; the algorithm; the data set that is signed, and that of the
+// signature item.
+pub(crate) struct Selected {
+    pub start: usize,
+    pub end: usize,
+    pub algorithm: Algorithm,
+    pub signed: Extent,
+    pub item: Extent,
+}
+
+// A refusal, or what is selected.
 pub(crate) enum Selection {
     Refused(Answer),
-    Selected {
-        start: usize,
-        end: usize,
-        item: Extent,
-    },
+    Selected(Selected),
 }
 
 // Whether an element of this VR and extent is a MAC ID Number.
@@ -187,18 +205,21 @@ fn is_sha256(value: &[u8]) -> bool
     slices::all_are(&value[6..], 0x20)
 }
 
-// 22: whether the algorithm in this place is refused.
-fn bad_algorithm(d: &[u8], p: Place) -> bool
+// 22: the algorithm in this place.
+fn algorithm_of(d: &[u8], p: Place) -> FoundAlgorithm
     requires { ⌜ PlaceLies (now d) p ⌝ }
-    ensures { λ r. ⌜ BadAlgorithm (now (d .entry)) p r ⌝ }
+    ensures { λ r. ⌜ AlgorithmOf (now (d .entry)) p r ⌝ }
 {
     let Place::Value { vr, start, end } = p else {
-        return true;
+        return FoundAlgorithm::Absent;
     };
     if vr != vr::CS {
-        return true;
+        return FoundAlgorithm::Absent;
     }
-    !is_sha256(&d[start..end])
+    if !is_sha256(&d[start..end]) {
+        return FoundAlgorithm::Absent;
+    }
+    FoundAlgorithm::Named(Algorithm::Sha256)
 }
 
 // A refusal of the selection.
@@ -208,10 +229,17 @@ fn refused(number: u8) -> Selection
     Selection::Refused(Answer::refused(number, 0))
 }
 
-// 21 to 23: the list in the parameters item.
-fn list_of(uid: &[u8], d: &[u8], item: Extent, parameters: Extent, list: Place) -> Selection
-    requires { ⌜ Lies (now d) item × Lies (now d) parameters × PlaceLies (now d) list ⌝ }
-    ensures { λ r. ⌜ ListOf (now (uid .entry)) (now (d .entry)) item parameters list r ⌝ }
+// 21 to 23: the algorithm and the list in the parameters item.
+fn list_of(
+    uid: &[u8],
+    d: &[u8],
+    signed: Extent,
+    item: Extent,
+    parameters: Extent,
+    list: Place,
+) -> Selection
+    requires { ⌜ Lies (now d) signed × Lies (now d) item × Lies (now d) parameters × PlaceLies (now d) list ⌝ }
+    ensures { λ r. ⌜ ListOf (now (uid .entry)) (now (d .entry)) signed item parameters list r ⌝ }
 {
     let fields = seek::seek(
         d,
@@ -221,7 +249,7 @@ fn list_of(uid: &[u8], d: &[u8], item: Extent, parameters: Extent, list: Place) 
     );
     let Sought::Past {
         first: syntax,
-        second: algorithm,
+        second: term,
         next: _,
     } = fields
     else {
@@ -231,24 +259,50 @@ fn list_of(uid: &[u8], d: &[u8], item: Extent, parameters: Extent, list: Place) 
     if bad_syntax(uid, d, syntax) {
         return refused(21);
     }
-    if bad_algorithm(d, algorithm) {
+    let named = algorithm_of(d, term);
+    let FoundAlgorithm::Named(algorithm) = named else {
         return refused(22);
-    }
+    };
     let Place::Value { vr, start, end } = list else {
         return refused(23);
     };
     if vr != vr::AT {
         return refused(23);
     }
-    Selection::Selected { start, end, item }
+    let selected = Selected {
+        start,
+        end,
+        algorithm,
+        signed,
+        item,
+    };
+    Selection::Selected(selected)
 }
 
-// 18 to 23, by what stands under the tags of the two sequences.
-fn select_from(uid: &[u8], number: u64, d: &[u8], parameters: Place, signatures: Place) -> Selection
-    requires { ⌜ Located (now d) parameters × Located (now d) signatures ⌝ }
-    ensures { λ r. ⌜ SelectOf (now (uid .entry)) number (now (d .entry)) parameters signatures r ⌝ }
+// By what the signature item is found; where no number is given, 0 is taken.
+fn key_of(which: Signature) -> ItemKey
+    ensures { λ r. ⌜ r ≡ keyOf which ⌝ }
 {
-    let signature = find_item_under(d, signatures, ItemKey::Number(number));
+    match which {
+        Signature::Unnamed => ItemKey::Number(0),
+        Signature::Number(number) => ItemKey::Number(number),
+    }
+}
+
+// 18 to 23, in the data set x, by what stands under the tags of the two sequences.
+fn select_from(
+    uid: &[u8],
+    which: Signature,
+    d: &[u8],
+    x: Extent,
+    parameters: Place,
+    signatures: Place,
+) -> Selection
+    requires { ⌜ Lies (now d) x × Located (now d) parameters × Located (now d) signatures ⌝ }
+    ensures { λ r. ⌜ SelectOf (now (uid .entry)) which (now (d .entry)) x parameters signatures r ⌝ }
+{
+    let key = key_of(which);
+    let signature = find_item_under(d, signatures, key);
     let FoundItem::Item {
         inside: item,
         id,
@@ -272,13 +326,13 @@ fn select_from(uid: &[u8], number: u64, d: &[u8], parameters: Place, signatures:
     else {
         return refused(20);
     };
-    list_of(uid, d, item, inside, list)
+    list_of(uid, d, x, item, inside, list)
 }
 
-// What is selected in a data set: its first fault, 18 to 23, or the list and the signature item.
-pub(crate) fn select(uid: &[u8], number: u64, d: &[u8], x: Extent) -> Selection
+// What is selected in a data set: its first fault, 18 to 23, or the list, the algorithm, the data set and the signature item.
+pub(crate) fn select(uid: &[u8], which: Signature, d: &[u8], x: Extent) -> Selection
     requires { ⌜ Lies (now d) x ⌝ }
-    ensures { λ r. ⌜ SelectedIn (now (uid .entry)) number (now (d .entry)) (elementsIn (now (d .entry)) x) r ⌝ }
+    ensures { λ r. ⌜ SelectedIn (now (uid .entry)) which (now (d .entry)) (elementsIn (now (d .entry)) x) r ⌝ }
 {
     match seek::seek(
         d,
@@ -291,6 +345,6 @@ pub(crate) fn select(uid: &[u8], number: u64, d: &[u8], x: Extent) -> Selection
             first: parameters,
             second: signatures,
             next: _,
-        } => select_from(uid, number, d, parameters, signatures),
+        } => select_from(uid, which, d, x, parameters, signatures),
     }
 }

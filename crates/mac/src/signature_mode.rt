@@ -1,18 +1,20 @@
-// Signature mode: the stream of a signature in the data set, and the check of its digest.
+// Signature mode: the stream of a signature in the data set, its measuring, and the check of its digest.
 use crate::modes;
 use crate::modes::SignatureItem;
 use crate::selection;
+use crate::selection::Selected;
 use crate::selection::Selection;
 use crate::verdict;
 use crate::verdict::Checked;
+use crate::verdict::ExpectedLength;
 use answer::Answer;
 use dataset::extent;
 use dataset::reading;
 ghost use mathlib.Core.Path.{_≡_};
 ghost use Rattle.mac.specs.Result.{Streamed, CheckedAs};
-ghost use Rattle.mac.specs.Selection.{numberOf};
-ghost use Rattle.mac.specs.SignatureMode.{streamCall, checkCall, result};
-ghost use Rattle.mac.specs.Inner.Calls.{signatureCall, CallAnswered};
+ghost use Rattle.digest.specs.Message.{limit};
+ghost use Rattle.mac.specs.SignatureMode.{measure, streamCall, checkCall, result};
+ghost use Rattle.mac.specs.Inner.Calls.{SignatureMeasured, signatureCall, CallAnswered};
 
 // Which signature: none is named, or by its number from 0.
 pub enum Signature {
@@ -20,35 +22,69 @@ pub enum Signature {
     Number(u64),
 }
 
-// The number of a signature; where no number is given, 0 is taken.
-fn number_of(which: Signature) -> u64
-    ensures { λ r. ⌜ r ≡ numberOf which ⌝ }
+// What is measured: a refusal; or what is selected, and the answer with the length of its stream.
+enum Measured {
+    Refused(Answer),
+    Accepted { selected: Selected, answer: Answer },
+}
+
+// Selects and measures: 1 to 8, 18 to 23, 10 to 15.
+fn measure_selected(uid: &[u8], which: Signature, d: &[u8]) -> Measured
+    ensures { λ r. ⌜ SignatureMeasured (now (uid .entry)) which (now (d .entry)) r ⌝ }
 {
-    match which {
-        Signature::Unnamed => 0,
-        Signature::Number(number) => number,
+    let size = reading::size_answer(d);
+    if size.number != 0 {
+        return Measured::Refused(size);
+    }
+    match selection::select(uid, which, d, extent::whole(d.len())) {
+        Selection::Refused(answer) => Measured::Refused(answer),
+        Selection::Selected(selected) => {
+            let start = selected.start;
+            let end = selected.end;
+            let signed = selected.signed;
+            let item = selected.item;
+            let own = SignatureItem::Item(item);
+            let answer = modes::measure(&d[start..end], d, signed, own);
+            if answer.number != 0 {
+                return Measured::Refused(answer);
+            }
+            Measured::Accepted { selected, answer }
+        }
     }
 }
 
-// The answer of a call, by whether its expected digest is not 32 bytes; where it is accepted the stream is written.
+// Measures the stream of a signature in a data set: the answer of a call for the stream with room enough. Nothing is written.
+pub fn signature_measure(uid: &[u8], which: Signature, d: &[u8]) -> Answer
+    ensures { λ r. ⌜ r ≡ measure (now (uid .entry)) which (now (d .entry)) ⌝ }
+{
+    match measure_selected(uid, which, d) {
+        Measured::Refused(answer) => answer,
+        Measured::Accepted {
+            selected: _,
+            answer,
+        } => answer,
+    }
+}
+
+// The answer of a call, by the length of its expected digest; where it is accepted the stream is written.
 fn signature_call(
     uid: &[u8],
     which: Signature,
     d: &[u8],
-    bad_digest_length: bool,
+    expected: ExpectedLength,
     out: &mut [u8],
 ) -> Answer
-    ensures { λ r. ⌜ CallAnswered (signatureCall (now (uid .entry)) which (now (d .entry)) (now (out .entry))) «bad_digest_length» (now (out .entry)) r (now (out .exit)) ⌝ }
+    ensures { λ r. ⌜ CallAnswered (signatureCall (now (uid .entry)) which (now (d .entry)) (now (out .entry))) expected limit (now (out .entry)) r (now (out .exit)) ⌝ }
 {
-    if reading::SIZE_LIMIT < d.len() {
-        return Answer::refused(1, 0);
-    }
-    let x = extent::whole(d.len());
-    match selection::select(uid, number_of(which), d, x) {
-        Selection::Refused(answer) => answer,
-        Selection::Selected { start, end, item } => {
+    match measure_selected(uid, which, d) {
+        Measured::Refused(answer) => answer,
+        Measured::Accepted { selected, answer } => {
+            let start = selected.start;
+            let end = selected.end;
+            let signed = selected.signed;
+            let item = selected.item;
             let own = SignatureItem::Item(item);
-            modes::answer_from_10(&d[start..end], d, x, own, bad_digest_length, out)
+            modes::answer_from_9(&d[start..end], d, signed, own, answer.length, expected, out)
         }
     }
 }
@@ -57,7 +93,7 @@ fn signature_call(
 pub fn signature_stream(uid: &[u8], which: Signature, d: &[u8], out: &mut [u8]) -> Answer
     ensures { λ r. ⌜ Streamed (result (streamCall (now (uid .entry)) which (now (d .entry)) (now (out .entry)))) (now (d .entry)) (now (out .entry)) r (now (out .exit)) ⌝ }
 {
-    signature_call(uid, which, d, false, out)
+    signature_call(uid, which, d, ExpectedLength::Absent, out)
 }
 
 // The check of the stream's digest: the stream is written into the work buffer.
@@ -70,6 +106,6 @@ pub fn signature_check(
 ) -> Checked
     ensures { λ r. ⌜ CheckedAs (result (checkCall (now (uid .entry)) which (now (d .entry)) (now (expected .entry)) (now (work .entry)))) (now (d .entry)) (now (work .entry)) r (now (work .exit)) ⌝ }
 {
-    let answer = signature_call(uid, which, d, verdict::bad_digest_length(expected), work);
+    let answer = signature_call(uid, which, d, ExpectedLength::Length(expected.len()), work);
     verdict::check_of(answer, expected, work)
 }

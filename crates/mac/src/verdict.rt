@@ -5,9 +5,8 @@ ghost use mathlib.Core.Path.{_≡_};
 ghost use mathlib.Core.Option.{some};
 ghost use Prim.Native.Nat.{_≤_};
 ghost use lib.ListN.{length};
-ghost use Rattle.mac.specs.Modes.{badDigestLength};
 ghost use Rattle.mac.specs.Result.{verdictCode, compared};
-ghost use Rattle.mac.specs.Inner.Verdict.{CheckOf};
+ghost use Rattle.mac.specs.Inner.Verdict.{CheckOf, badLength};
 
 // Whether the digest of the stream is the expected one; a check that is refused says neither of the two.
 pub enum Verdict {
@@ -22,11 +21,20 @@ pub struct Checked {
     pub verdict: Verdict,
 }
 
+// The length of the expected digest; a call for the stream has none.
+pub(crate) enum ExpectedLength {
+    Absent,
+    Length(usize),
+}
+
 // 9: whether an expected digest has not the length of a digest.
-pub(crate) fn bad_digest_length(expected: &[u8]) -> bool
-    ensures { λ r. ⌜ r ≡ badDigestLength (some (now (expected .entry))) ⌝ }
+pub(crate) fn bad_digest_length(expected: ExpectedLength) -> bool
+    ensures { λ r. ⌜ r ≡ badLength expected ⌝ }
 {
-    expected.len() != 32
+    match expected {
+        ExpectedLength::Absent => false,
+        ExpectedLength::Length(length) => length != 32,
+    }
 }
 
 // What a check says of the digest of its stream.

@@ -1,24 +1,28 @@
--- An accepted call in list mode: its data set is read, none of the refusals holds, and the answer is the stream's length. Assumes nothing.
-use Prim.Native.Nat.{ℕ}
+-- An accepted call in list mode: its data set is read, and none of the refusals up to 15 holds; in either mode, neither 9 nor 16 is given, and
+-- the answer is the stream's length. Assumes nothing.
+use Prim.Native.Nat.{ℕ, _≤_}
 use mathlib.Core.Path.{_≡_, refl, sym, ap, _∙_}
 use mathlib.Core.Bool.{true}
 use mathlib.Core.List.{List}
+use mathlib.Core.Option.{Option}
 use native.Mathlib.Omega.{arith}
+use lib.Dec.{eqb}
 use lib.ListN.{length}
-use borrow.Author.Tests.{eqb-true, le-ltb}
+use borrow.Author.Tests.{eqb-true, le-ltb, ltb-false}
 use Rattle.slices.specs.If.{if_then_else_}
 use Rattle.answer.specs.declared.Answer.{Answer}
 use Rattle.answer.specs.Answer.{accepted, _orElse_}
-use Rattle.answer.proofs.laws.Chain.{or-else-second, both-accepted}
+use Rattle.answer.proofs.laws.Chain.{or-else-second, BothAccepted, both-accepted}
 use Rattle.dataset.specs.Tree.{Elements}
 use Rattle.dataset.specs.Reading.{Reading, sizeLimit, dataSet, answerOf, treeOf, tree}
+use Rattle.dataset.proofs.laws.reading.Loops.{size-within}
 use Rattle.dataset.proofs.Theorems.{faults-inside}
 use Rattle.dataset.proofs.laws.reading.Guarantees.{data-set-read}
 use Rattle.mac.specs.TagList.{tagsIn, listAnswer}
-use Rattle.mac.specs.Modes.{answerFrom13}
+use Rattle.mac.specs.Modes.{tagsAnswer, answerFrom9}
 use Rattle.mac.specs.Result.{isAccepted}
-use Rattle.mac.specs.ListMode.{Call, stream, answer, result}
-use Rattle.mac.proofs.From13Answers.{From13Accepts, from13-accepts, from13-accepted}
+use Rattle.mac.specs.ListMode.{Call, stream, answerTo15, answer, result}
+use Rattle.mac.proofs.From9Answers.{from9-accepts, from9-accepted}
 
 -- accepted, over the definitions
 abbrev pub Accepted : Call → Type 0
@@ -43,37 +47,47 @@ is-read d = go (dataSet d) refl
 pub record Accepts (c : Call) : Type 0 where
   pub list : listAnswer (c .list) .number ≡ 0
   pub read : IsRead (c .set)
-  pub from13 : From13Accepts (tagsIn (c .list)) (tree (c .set)) (stream c) (c .room) (c .expected)
+  pub found : tagsAnswer 0 (tagsIn (c .list)) (tree (c .set)) .number ≡ 0
 
 pub accepts : (c : Call) → answer c .number ≡ 0 → Accepts c
-unfolding answer
+unfolding answer answerTo15
 accepts c h =
-    let size = both-accepted _ _ h in
+    let size = both-accepted _ _ (both-accepted (answerTo15 (c .list) (c .set)) _ h .first) in
     let list = both-accepted _ _ (size .second) in
     let reading = both-accepted _ _ (list .second) in
     record {
       list = list .first;
       read = is-read (c .set) (reading .first);
-      from13 = from13-accepts (tagsIn (c .list)) (tree (c .set)) (stream c) (c .room) (c .expected) (reading .second);
+      found = reading .second;
     }
 
--- the answer of a call whose data set is read
-pub answer-read : (c : Call) → IsRead (c .set)
-    → answer c ≡ (listAnswer (c .list) orElse answerFrom13 (tagsIn (c .list)) (tree (c .set)) (stream c) (c .room) (c .expected))
-unfolding answer if_then_else_
-answer-read c r =
-    let d = data-set-read (c .set) (tree (c .set)) (r .next) (r .is) in
-    rw (le-ltb sizeLimit (length (c .set)) (d .small)) (
+-- the order up to 15, where the data set is read
+pub to15-read : (list set : List ℕ) → IsRead set → answerTo15 list set ≡ (listAnswer list orElse tagsAnswer 0 (tagsIn list) (tree set))
+unfolding answerTo15 if_then_else_
+to15-read list set r =
+    let d = data-set-read set (tree set) (r .next) (r .is) in
+    rw (size-within set (d .small)) (
     or-else-second (accepted 0) _ refl
-    ∙ ap (λ (x : Answer). listAnswer (c .list) orElse x) (or-else-second (answerOf (dataSet (c .set))) _ (ap (λ (p : Reading Elements). answerOf p .number) (r .is)))
+    ∙ ap (λ (x : Answer). listAnswer list orElse x) (or-else-second (answerOf (dataSet set)) _ (ap (λ (p : Reading Elements). answerOf p .number) (r .is)))
     )
 
-pub answer-accepts : (c : Call) → Accepts c → answer c ≡ accepted (length (stream c))
-answer-accepts c a =
-    answer-read c (a .read)
-    ∙ or-else-second _ _ (a .list)
-    ∙ from13-accepted (tagsIn (c .list)) (tree (c .set)) (stream c) (c .room) (c .expected) (a .from13)
+-- ---- either mode: where an order that ends in 9 and 16 is accepted
+module _ (first : Answer) (bytes : List ℕ) (room : ℕ) (expected : Option (List ℕ)) (h : eqb ((first orElse answerFrom9 bytes room expected) .number) 0 ≡ true) where
+  both : BothAccepted first (answerFrom9 bytes room expected)
+  both = both-accepted first _ (eqb-true ((first orElse answerFrom9 bytes room expected) .number) 0 h)
 
--- an accepted call's answer
-pub answer-accepted : (c : Call) → Accepted c → answer c ≡ accepted (length (stream c))
-answer-accepted c h = answer-accepts c (accepts c (eqb-true (answer c .number) 0 h))
+  pub end-accepted : (first orElse answerFrom9 bytes room expected) ≡ accepted (length bytes)
+  end-accepted = or-else-second first _ (both .first) ∙ from9-accepted bytes room expected (from9-accepts bytes room expected (both .second))
+
+  pub end-fits : length bytes ≤ room
+  end-fits = ltb-false room (length bytes) (from9-accepts bytes room expected (both .second) .fits)
+
+-- ---- an accepted call in list mode
+module _ (c : Call) (h : Accepted c) where
+  pub answer-accepted : answer c ≡ accepted (length (stream c))
+  unfolding answer
+  answer-accepted = end-accepted (answerTo15 (c .list) (c .set)) (stream c) (c .room) (c .expected) h
+
+  pub answer-fits : length (stream c) ≤ c .room
+  unfolding answer
+  answer-fits = end-fits (answerTo15 (c .list) (c .set)) (stream c) (c .room) (c .expected) h

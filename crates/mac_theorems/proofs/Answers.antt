@@ -15,9 +15,9 @@ use Rattle.answer.specs.declared.Answer.{Answer}
 use Rattle.slices.specs.If.{if_then_else_}
 use Rattle.answer.specs.Answer.{accepted, refused, _orElse_}
 use Rattle.answer.proofs.laws.Refusals.{position-kept, position-none}
-use Rattle.answer.proofs.laws.Chain.{or-else-holds}
+use Rattle.answer.proofs.laws.Chain.{or-else-holds, both-accepted}
 use Rattle.dataset.specs.Tree.{Element, Elements}
-use Rattle.dataset.specs.Reading.{Reading, fault, read, explicit, elementsAt, sizeLimit, levels, dataSet, answerOf, tree}
+use Rattle.dataset.specs.Reading.{Reading, fault, read, explicit, elementsAt, sizeLimit, sizeAnswer, levels, dataSet, answerOf, tree}
 use Rattle.dataset.specs.Lookup.{elementOf}
 use Rattle.dataset.proofs.laws.Bools.{choose}
 use Rattle.dataset.proofs.laws.reading.Bounded.{explicit-bounded}
@@ -25,8 +25,8 @@ use Rattle.dataset.proofs.laws.reading.Within.{Within, elements-within}
 use Rattle.dataset.proofs.laws.reading.Loops.{data-set-is, data-set-over}
 use Rattle.mac.specs.TagList.{tagsIn, barred, ascendingAnswer, unbarredAnswer, badSize, listAnswer}
 use Rattle.mac.specs.UN.{isUN, holdsUN}
-use Rattle.mac.specs.Modes.{elementAnswer, tagsAnswer, badDigestLength, answerFrom13}
-use Rattle.mac.specs.ListMode.{Call, answer}
+use Rattle.mac.specs.Modes.{elementAnswer, tagsAnswer, badDigestLength, answerFrom9}
+use Rattle.mac.specs.ListMode.{Call, answerTo15, answer}
 use Rattle.mac_theorems.specs.Calls.{EitherCall, inListMode, inSignatureMode, setOf, listOf, roomOf, resultOf}
 use Rattle.mac_theorems.specs.Theorems.{highest, Positioned}
 use Rattle.mac_theorems.proofs.SignatureStreamLength.{never-longer}
@@ -114,6 +114,10 @@ module _ (c : EitherCall) where
   size-regular t number h n =
       test-regular t _ _ (λ z. plain-regular number (λ l u. omega arith) (other-possible number (omega arith) n)) (accepted-regular 0)
 
+  set-regular : Regular c (sizeAnswer (setOf c))
+  unfolding sizeAnswer
+  set-regular = size-regular (ltb sizeLimit (length (setOf c))) 1 (omega arith) (λ z. omega arith)
+
   ascending-regular : (index least : ℕ) (tags : List ℕ) → index + length tags ≤ length (tagsIn (listOf c)) → Regular c (ascendingAnswer index least tags)
   unfolding ascendingAnswer
   ascending-regular index least [] h = accepted-regular 0
@@ -139,18 +143,19 @@ module _ (c : EitherCall) where
       test-regular (isUN e) _ _ (λ z. index-regular 14 index (omega arith) (omega arith) h)
       (test-regular (holdsUN e) _ _ (λ z. index-regular 15 index (omega arith) (omega arith) h) (accepted-regular 0))
 
-  tags-regular : (index : ℕ) (tags : List ℕ) (es : Elements) → index + length tags ≤ length (tagsIn (listOf c)) → Regular c (tagsAnswer index tags es)
+  from-regular : (index : ℕ) (tags : List ℕ) (es : Elements) → index + length tags ≤ length (tagsIn (listOf c)) → Regular c (tagsAnswer index tags es)
   unfolding tagsAnswer
-  tags-regular index [] es h = accepted-regular 0
-  tags-regular index (tag ∷ tags) es h =
-      or-else-regular _ _ (element-regular index (elementOf tag es) (omega arith)) λ z. tags-regular (index + 1) tags es (omega arith)
+  from-regular index [] es h = accepted-regular 0
+  from-regular index (tag ∷ tags) es h =
+      or-else-regular _ _ (element-regular index (elementOf tag es) (omega arith)) λ z. from-regular (index + 1) tags es (omega arith)
+
+  pub tags-regular : (es : Elements) → Regular c (tagsAnswer 0 (tagsIn (listOf c)) es)
+  tags-regular es = from-regular 0 (tagsIn (listOf c)) es (omega arith)
 
   -- the end of the order, where the list is not refused
-  pub from13-regular : (es : Elements) → listAnswer (listOf c) .number ≡ 0
-      → Regular c (answerFrom13 (tagsIn (listOf c)) es (resultOf c .stream) (roomOf c) (resultOf c .expected))
-  unfolding answerFrom13
-  from13-regular es h =
-      or-else-regular _ _ (tags-regular 0 (tagsIn (listOf c)) es (omega arith)) λ z.
+  pub from9-regular : listAnswer (listOf c) .number ≡ 0 → Regular c (answerFrom9 (resultOf c .stream) (roomOf c) (resultOf c .expected))
+  unfolding answerFrom9
+  from9-regular h =
       or-else-regular _ _ (test-regular (badDigestLength (resultOf c .expected)) _ _ of9 (accepted-regular 0)) λ z.
       or-else-regular _ _ (test-regular (ltb (roomOf c) (length (resultOf c .stream))) _ _ of16 (accepted-regular 0)) λ z.
       accepted-regular (length (resultOf c .stream))
@@ -193,12 +198,14 @@ module _ (c : EitherCall) where
 
 -- ---- list mode
 pub answer-regular : (c : Call) → Regular (inListMode c) (answer c)
-unfolding answer
+unfolding answer answerTo15
 answer-regular c =
-    or-else-regular k _ _ (size-regular k (ltb sizeLimit (length (c .set))) 1 (omega arith) (λ z. omega arith)) λ z.
-    or-else-regular k _ _ (list-regular k) λ h.
+    or-else-regular k (answerTo15 (c .list) (c .set)) _
+    (or-else-regular k _ _ (set-regular k) λ z.
+    or-else-regular k _ _ (list-regular k) λ z.
     or-else-regular k _ _ (reading-regular k) λ z.
-    from13-regular k (tree (c .set)) h
+    tags-regular k (tree (c .set)))
+    λ z. from9-regular k (both-accepted (listAnswer (c .list)) _ (both-accepted _ _ z .second) .first)
   where
     k : EitherCall
     k = inListMode c

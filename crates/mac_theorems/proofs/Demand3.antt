@@ -21,9 +21,9 @@ use Rattle.dataset.proofs.Theorems.{well-formed-accepted, accepted-well-formed}
 use Rattle.dataset.specs.Reading.{answerOf, tree}
 use Rattle.mac.specs.TagList.{tagsIn, listAnswer}
 use Rattle.mac.specs.Content.{SignedElements}
-use Rattle.mac.specs.Modes.{answerFrom13}
+use Rattle.mac.specs.Modes.{answerFrom9}
 use Rattle.mac.specs.Result.{neither, compared, isAccepted, verdictOf}
-use Rattle.mac.specs.ListMode.{Call, contentOf, stream, answer, streamCall, result}
+use Rattle.mac.specs.ListMode.{Call, contentOf, streamIn, stream, answerTo15, answer, streamCall, result}
 use Rattle.mac.specs.SignatureMode as mode
 use Rattle.mac_theorems.specs.Calls.{inListMode, Run, PromisedRuns}
 use Rattle.mac_theorems.specs.Demand3.{signedInFragments, listedHoldUN, on, written, FirstHalf, HasSignedContent, SecondHalf, AcceptedHasContent, Demand3}
@@ -34,7 +34,7 @@ use Rattle.mac_theorems.proofs.ListedElements.{HasContent, has-content}
 use Rattle.mac_theorems.proofs.ListedContent.{listed-encoded, content-fits, same-tags, none-hold}
 use Rattle.mac_theorems.proofs.Answers.{answer-regular}
 use Rattle.mac_theorems.proofs.Outputs.{output-stream}
-use Rattle.mac_theorems.proofs.Acceptance.{Accepted, IsRead, is-read, Accepts, accepts, answer-read, answer-accepted}
+use Rattle.mac_theorems.proofs.Acceptance.{Accepted, IsRead, is-read, Accepts, accepts, to15-read, answer-accepted}
 
 -- ---- the stream of a call is the encoding of its signed content
 module _ (c : Call) (b : OfBytes (c .set)) (r : IsRead (c .set)) (row : SignedElements) (is : contentOf c ≡ some row) where
@@ -45,7 +45,7 @@ module _ (c : Call) (b : OfBytes (c .set)) (r : IsRead (c .set)) (row : SignedEl
   within = record { bytes = b; small = placed .small }
 
   stream-encoded : stream c ≡ encodeElements row
-  unfolding stream contentOf
+  unfolding streamIn contentOf
   stream-encoded = listed-encoded (c .set) within (tree (c .set)) _ 0 0 (r .next) (placed .tree) (tagsIn (c .list)) row is
 
   call-fits : ElementsFit row
@@ -54,7 +54,7 @@ module _ (c : Call) (b : OfBytes (c .set)) (r : IsRead (c .set)) (row : SignedEl
 
 -- an accepted call has a signed content
 call-has-content : (c : Call) → Accepts c → HasContent (tagsIn (c .list)) (tree (c .set)) (c .set)
-call-has-content c a = has-content (tagsIn (c .list)) 0 (tree (c .set)) (c .set) (a .from13 .found)
+call-has-content c a = has-content (tagsIn (c .list)) 0 (tree (c .set)) (c .set) (a .found)
 
 number-0 : (c : Call) → Accepted c → answer c .number ≡ 0
 number-0 c h = eqb-true (answer c .number) 0 h
@@ -99,14 +99,19 @@ unfolding verdictOf
 same-verdict c d a s =
     ap₂ (λ (x : Answer) (y : List ℕ). if eqb (x .number) 0 then compared (c .expected) (digestOf sha256 y) else neither) a s
 
--- the end of the order
-same-tail : (c : Call) (d : List ℕ) (row : SignedElements) → contentOf c ≡ some row → contentOf (on c d) ≡ contentOf c → listedHoldUN (tagsIn (c .list)) (tree (c .set)) ≡ false
-    → listedHoldUN (tagsIn (c .list)) (tree d) ≡ false → stream (on c d) ≡ stream c
-    → answerFrom13 (tagsIn (c .list)) (tree d) (stream (on c d)) (c .room) (c .expected)
-    ≡ answerFrom13 (tagsIn (c .list)) (tree (c .set)) (stream c) (c .room) (c .expected)
-unfolding answerFrom13 contentOf
-same-tail c d row is same m n streams =
-    rw (same-tags (tagsIn (c .list)) 0 (tree d) (tree (c .set)) d (c .set) row (same ∙ is) is n m, streams)
+-- the order up to 15
+same-to15 : (c : Call) (d : List ℕ) (row : SignedElements) → contentOf c ≡ some row → contentOf (on c d) ≡ contentOf c → listedHoldUN (tagsIn (c .list)) (tree (c .set)) ≡ false
+    → listedHoldUN (tagsIn (c .list)) (tree d) ≡ false → IsRead (c .set) → IsRead d → answerTo15 (c .list) d ≡ answerTo15 (c .list) (c .set)
+unfolding contentOf
+same-to15 c d row is same m n r r′ =
+    to15-read (c .list) d r′
+    ∙ ap (λ (x : Answer). listAnswer (c .list) orElse x) (same-tags (tagsIn (c .list)) 0 (tree d) (tree (c .set)) d (c .set) row (same ∙ is) is n m)
+    ∙ sym (to15-read (c .list) (c .set) r)
+
+-- the whole order
+same-answer : (c : Call) (d : List ℕ) → answerTo15 (c .list) d ≡ answerTo15 (c .list) (c .set) → stream (on c d) ≡ stream c → answer (on c d) ≡ answer c
+unfolding answer
+same-answer c d first streams = ap₂ (λ (x : Answer) (y : List ℕ). x orElse answerFrom9 y (c .room) (c .expected)) first streams
 
 -- a content that is there
 record Row (o : Option SignedElements) : Type 0 where
@@ -143,7 +148,7 @@ same-content c d b b′ g g′ same = record { answers = answers; verdicts = sam
     streams = stream-encoded (on c d) b′ r′ (s .row) (same ∙ s .is) ∙ sym (stream-encoded c b r (s .row) (s .is))
 
     answers : answer (on c d) ≡ answer c
-    answers = answer-read (on c d) r′ ∙ ap (λ (x : Answer). listAnswer (c .list) orElse x) (same-tail c d (s .row) (s .is) same (g .known) (g′ .known) streams) ∙ sym (answer-read c r)
+    answers = same-answer c d (same-to15 c d (s .row) (s .is) same (g .known) (g′ .known) r r′) streams
 
 -- ---- of what the calls give back
 
@@ -231,7 +236,7 @@ accepted-has-content c out after a said u h =
     record {
       wellFormed = accepted-well-formed (c .set) (ap answerOf (x .read .is));
       holds = λ e. let z : _≡_ {A = ℕ} 0 1 = cc (r .is, e) in omega arith;
-      known = none-hold (tagsIn (c .list)) 0 (tree (c .set)) (x .from13 .found);
+      known = none-hold (tagsIn (c .list)) 0 (tree (c .set)) (x .found);
     }
 
 pub demand-3 : Demand3

@@ -20,7 +20,7 @@ use Rattle.dataset.proofs.laws.reading.Guarantees.{data-set-read}
 use Rattle.dataset.proofs.laws.reading.Order.{elements-end}
 use Rattle.mac.specs.TagList.{tagsIn, ascendingAnswer, unbarredAnswer, listAnswer}
 use Rattle.mac.specs.Stream.{streamOf, foundStream, listedStream}
-use Rattle.mac.specs.ListMode.{Call, stream}
+use Rattle.mac.specs.ListMode.{Call, streamIn, stream}
 use Rattle.mac.proofs.StreamLength.{element-length}
 use Rattle.mac_theorems.proofs.FoundLies.{found-at}
 
@@ -82,5 +82,5 @@ module _ (d tags : List ℕ) (a : ascendingAnswer 0 0 tags .number ≡ 0) where
       omega (arith, p .whole)
 
 pub list-never-longer : (c : Call) → listAnswer (c .list) .number ≡ 0 → length (stream c) ≤ length (c .set)
-unfolding stream
+unfolding streamIn
 list-never-longer c h = tree-no-longer (c .set) (tagsIn (c .list)) (list-accepts (c .list) h .first) (dataSet (c .set)) refl

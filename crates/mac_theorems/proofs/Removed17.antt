@@ -1,32 +1,33 @@
 -- Number 17, the rule that was removed: no UN is met where none of 13, 14 and 15 is given, so that the orders with and without it give the
 -- same answers. Assumes nothing.
 use Prim.Native.Nat.{ℕ, _+_}
-use mathlib.Core.Path.{_≡_, refl, ap}
+use mathlib.Core.Path.{_≡_, refl, ap, _∙_}
 use mathlib.Core.Bool.{Bool, true, false, _||_}
 use mathlib.Core.List.{List, [], _∷_}
 use mathlib.Core.Option.{Option, some}
 use mathlib.Core.Option as Opt
+use native.Mathlib.Omega.{arith}
 use lib.Dec.{ltb}
 use lib.ListN.{length}
 use Rattle.slices.specs.If.{if_then_else_}
 use Rattle.answer.specs.declared.Answer.{Answer}
 use Rattle.answer.specs.Answer.{accepted, refused, _orElse_}
-use Rattle.answer.proofs.laws.Chain.{or-else-same}
+use Rattle.answer.proofs.laws.Chain.{or-else-first, or-else-same, or-else-assoc}
 use Rattle.dataset.specs.Tree.{Element, Elements, Items, tagOf}
-use Rattle.dataset.specs.Reading.{sizeLimit, dataSet, answerOf, tree}
+use Rattle.dataset.specs.Reading.{sizeAnswer, dataSet, answerOf, tree}
 use Rattle.dataset.proofs.laws.Bools.{neither}
 use Rattle.mac.specs.TagList.{barred, unlessBarred, tagsIn, listAnswer}
 use Rattle.mac.specs.Content.{SignedElement, SignedElements, signed, signedElements, signedItems, joined, content}
 use Rattle.mac.specs.UN.{isUN, holdsUN, elementsHoldUN, itemsHoldUN}
-use Rattle.mac.specs.Modes.{tagsAnswer, answerFrom13}
+use Rattle.mac.specs.Modes.{tagsAnswer, answerFrom9}
 use Rattle.mac.specs.ListMode as listMode
-use Rattle.mac.specs.Selection.{Selection, refusal, selected}
-use Rattle.mac.specs.SignatureMode.{leftOut, own, answerBy}
+use Rattle.mac.specs.SignatureMode.{leftOut, own, streamBy, selectionAnswer}
 use Rattle.mac.specs.SignatureMode as signatureMode
 use Rattle.mac.proofs.OwnElements.{own-element}
 use Rattle.mac_theorems.specs.Calls.{EitherCall, inListMode, inSignatureMode, resultOf}
 use Rattle.mac_theorems.specs.Removed17.{writesUN, elementsWriteUN, itemsWriteUN, sequencesWriteUN, contentWritesUN, signatureWritesUN, answerFrom13With17, listModeWith17, answerByWith17, signatureModeWith17, answerWith17}
 use Rattle.mac_theorems.proofs.ListedElements.{tags-unrefused}
+use Rattle.mac_theorems.proofs.SelectedItem.{select-holds}
 
 -- ---- UN in the tree and UN in the signed content: a sequence that holds none writes none
 both-false : {a b : Bool} → a ≡ false → b ≡ false → a || b ≡ false
@@ -97,20 +98,38 @@ signature-unmet list item es d h = both-false (listed-unmet (tagsIn list) 0 es d
 
 -- ---- the orders without and with 17
 from13-same : (tags : List ℕ) (es : Elements) (metUN : Bool) (stream : List ℕ) (room : ℕ) (expected : Option (List ℕ)) → (tagsAnswer 0 tags es .number ≡ 0 → metUN ≡ false)
-    → answerFrom13 tags es stream room expected ≡ answerFrom13With17 tags es metUN stream room expected
-unfolding answerFrom13 answerFrom13With17 _orElse_ if_then_else_
+    → (tagsAnswer 0 tags es orElse answerFrom9 stream room expected) ≡ answerFrom13With17 tags es metUN stream room expected
+unfolding answerFrom9 answerFrom13With17 _orElse_ if_then_else_
 from13-same tags es metUN stream room expected unmet = or-else-same (tagsAnswer 0 tags es) _ _ λ h. rw (unmet h)
 
-by-same : (s : Selection) (es : Elements) (d : List ℕ) (room : ℕ) (expected : Option (List ℕ)) → answerBy s es d room expected ≡ answerByWith17 s es d room expected
-unfolding answerBy answerByWith17
-by-same (refusal number) es d room expected = refl
-by-same (selected list item) es d room expected =
-    ap (λ (a : Answer). listAnswer list orElse a) (from13-same (tagsIn list) es (signatureWritesUN list item es d) _ room expected (signature-unmet list item es d))
+by-same : (c : signatureMode.Call)
+    → (selectionAnswer (signatureMode.selection c) orElse answerFrom9 (streamBy (signatureMode.selection c) (c .set)) (c .room) (c .expected))
+    ≡ answerByWith17 (signatureMode.selection c) (c .set) (c .room) (c .expected)
+unfolding selectionAnswer answerByWith17
+by-same c =
+    select-holds (λ s. (selectionAnswer s orElse answerFrom9 (streamBy s d) (c .room) (c .expected)) ≡ answerByWith17 s d (c .room) (c .expected))
+    (λ number l u. or-else-first (refused number 0) _ (λ z. omega arith))
+    (c .uid) (c .which) (tree d) d
+    (λ item i list algorithm. or-else-assoc (listAnswer list) _ _
+    ∙ ap (λ (a : Answer). listAnswer list orElse a)
+    (from13-same (tagsIn list) (tree d) (signatureWritesUN list item (tree d) d) _ (c .room) (c .expected) (signature-unmet list item (tree d) d)))
+  where
+    d : List ℕ
+    d = c .set
 
 pub answers-same : (c : EitherCall) → resultOf c .answer ≡ answerWith17 c
-unfolding listMode.answer listMode.contentOf listModeWith17 signatureMode.answer signatureModeWith17
+unfolding listMode.answer listMode.answerTo15 listMode.contentOf listModeWith17 signatureMode.answer signatureMode.answerTo15 signatureMode.streamIn signatureModeWith17
 answers-same (inListMode c) =
-    ap (λ (a : Answer). (if ltb sizeLimit (length (c .set)) then refused 1 0 else accepted 0) orElse listAnswer (c .list) orElse answerOf (dataSet (c .set)) orElse a)
-    (from13-same (tagsIn (c .list)) (tree (c .set)) (contentWritesUN (listMode.contentOf c)) _ (c .room) (c .expected) (listed-unmet (tagsIn (c .list)) 0 (tree (c .set)) (c .set)))
+    or-else-assoc size _ _ ∙ ap (λ (a : Answer). size orElse a) (or-else-assoc list _ _ ∙ ap (λ (a : Answer). list orElse a) (or-else-assoc reading _ _ ∙ ap (λ (a : Answer). reading orElse a)
+    (from13-same (tagsIn (c .list)) (tree (c .set)) (contentWritesUN (listMode.contentOf c)) _ (c .room) (c .expected) (listed-unmet (tagsIn (c .list)) 0 (tree (c .set)) (c .set)))))
+  where
+    size : Answer
+    size = sizeAnswer (c .set)
+
+    list : Answer
+    list = listAnswer (c .list)
+
+    reading : Answer
+    reading = answerOf (dataSet (c .set))
 answers-same (inSignatureMode c) =
-    ap (λ (a : Answer). answerOf (dataSet (c .set)) orElse a) (by-same (signatureMode.selection c) (tree (c .set)) (c .set) (c .room) (c .expected))
+    or-else-assoc (answerOf (dataSet (c .set))) _ _ ∙ ap (λ (a : Answer). answerOf (dataSet (c .set)) orElse a) (by-same c)

@@ -1,4 +1,4 @@
--- What signature mode selects: a refusal of 18 to 23, or a list and the signature item. The stream of this item's elements is no longer
+-- What signature mode selects: a refusal of 18 to 23, or a list, an algorithm, the data set and the signature item. The stream of this item's elements is no longer
 -- than that of (FFFA,FFFA). Assumes nothing.
 use Prim.Native.Nat.{ℕ, _+_, _≤_}
 use mathlib.Core.Path.{_≡_, refl}
@@ -14,26 +14,28 @@ use Rattle.dataset.specs.Tree.{Element, Elements, Items}
 use Rattle.dataset.specs.Lookup.{elementOf}
 use Rattle.dataset.proofs.laws.Bools.{choose}
 use Rattle.mac.specs.Stream.{itemTagBytes, streamOf, elementsStream, itemsStream, foundStream}
-use Rattle.mac.specs.Selection.{valueOf, itemsOf, firstItem, itemWhere, signatureItem, macIdOf, parametersItem, badTransferSyntax, badAlgorithm, Selection, refusal, selected, need, parametersSelect, select}
+use Rattle.mac.specs.Selection.{valueOf, itemsOf, firstItem, itemWhere, signatureItem, macIdOf, parametersItem, badTransferSyntax, Algorithm, algorithmOf, Selection, refusal, selected, need, parametersSelect, selectIn, select}
 use Rattle.dataset.specs.Tags.{macCalculationTransferSyntaxUid, macAlgorithm, dataElementsSigned, digitalSignaturesSequence}
+use Rattle.mac.specs.declared.signature_mode.Signature.{Signature}
+use Rattle.mac.specs.declared.signature_mode.Signature.the-variants as signature
 
--- what holds of every refusal of 18 to 23, and of every list with the signature item, holds of what is selected
+-- what holds of every refusal of 18 to 23, and of every list and algorithm with the signature item, holds of what is selected
 module _ (P : Selection → Type 0) (refused : (number : ℕ) → 18 ≤ number → number ≤ 23 → P (refusal number)) where
   need-holds : {A : Type 0} → (number : ℕ) → 18 ≤ number → number ≤ 23 → (o : Option A) (on : A → Selection) → ((a : A) → o ≡ some a → P (on a))
       → P (need number o on)
   need-holds number l u Opt.none on k = refused number l u
   need-holds number l u (some a) on k = k a refl
 
-  pub select-holds : (uid : List ℕ) (number : ℕ) (es : Elements) (d : List ℕ)
-      → ((item : Elements) → signatureItem number es ≡ some item → (list : List ℕ) → P (selected list item)) → P (select uid number es d)
-  unfolding select parametersSelect
-  select-holds uid number es d k =
-      need-holds 18 (omega arith) (omega arith) (signatureItem number es) _ λ item i.
+  pub select-holds : (uid : List ℕ) (which : Signature) (es : Elements) (d : List ℕ)
+      → ((item : Elements) → signatureItem which es ≡ some item → (list : List ℕ) (algorithm : Algorithm) → P (selected list algorithm es item)) → P (select uid which es d)
+  unfolding selectIn parametersSelect
+  select-holds uid which es d k =
+      need-holds 18 (omega arith) (omega arith) (signatureItem which es) _ λ item i.
       need-holds 19 (omega arith) (omega arith) (macIdOf item d) _ λ id e.
       need-holds 20 (omega arith) (omega arith) (parametersItem id es d) _ λ parameters e.
       choose P (badTransferSyntax uid (valueOf UI (elementOf macCalculationTransferSyntaxUid parameters) d)) (λ t. refused 21 (omega arith) (omega arith)) λ t.
-      choose P (badAlgorithm (valueOf CS (elementOf macAlgorithm parameters) d)) (λ t. refused 22 (omega arith) (omega arith)) λ t.
-      need-holds 23 (omega arith) (omega arith) (valueOf AT (elementOf dataElementsSigned parameters) d) _ λ list e. k item i list
+      need-holds 22 (omega arith) (omega arith) (algorithmOf (valueOf CS (elementOf macAlgorithm parameters) d)) _ λ algorithm e.
+      need-holds 23 (omega arith) (omega arith) (valueOf AT (elementOf dataElementsSigned parameters) d) _ λ list e. k item i list algorithm
 
 -- the stream of an item's elements is no longer than that of the sequence that it stands in
 module _ (d : List ℕ) (item : Elements) (test : ℕ → Elements → Bool) where
@@ -55,7 +57,8 @@ module _ (d : List ℕ) (item : Elements) (test : ℕ → Elements → Bool) whe
   found-within (some (Element.sequence at tag span items)) e = let k = item-within 0 items e in simp length-append (omega arith)
   found-within (some (Element.fragments at tag span parts)) e = absurd (true≢false (cc))
 
-pub item-no-longer : (number : ℕ) (es : Elements) (d : List ℕ) (item : Elements) → signatureItem number es ≡ some item
+pub item-no-longer : (which : Signature) (es : Elements) (d : List ℕ) (item : Elements) → signatureItem which es ≡ some item
     → length (elementsStream item d) ≤ length (foundStream (elementOf digitalSignaturesSequence es) d)
 unfolding signatureItem
-item-no-longer number es d item e = found-within d item _ (elementOf digitalSignaturesSequence es) e
+item-no-longer signature.Unnamed es d item e = found-within d item _ (elementOf digitalSignaturesSequence es) e
+item-no-longer (signature.Number number) es d item e = found-within d item _ (elementOf digitalSignaturesSequence es) e

@@ -6,17 +6,17 @@ use Rattle.dataset.specs.Bytes.{num16, num32, tagAt, vrAt}
 use Rattle.slices.specs.Lists.{between, sameBytes, allAre}
 use Rattle.dataset.specs.Vr.{formOf, oneOf}
 use Rattle.dataset.specs.Header.{endsAt, closedBy, badLength, tooDeep, undefinedBy, definedBy, valueBy, longAt, byForm, vrOnAt, elementAt, itemBy, itemAt}
-use Rattle.dataset.specs.Reading.{byHeader, byOne, byItem, elementsBy, elementsAt, dataSet, deeper}
+use Rattle.dataset.specs.Reading.{byHeader, byOne, byItem, elementsBy, elementsAt, dataSet, sizeAnswer, unlessRefused, deeper}
 use Rattle.dataset.specs.Lookup.{elementOf}
 use Rattle.mac.specs.TagList.{tagsIn, barred, badSize, ascendingAnswer, unbarredAnswer, listAnswer}
 use Rattle.mac.specs.Stream.{streamOf, listedStream}
 use Rattle.mac.specs.UN.{holdsUN}
-use Rattle.mac.specs.Modes.{elementAnswer, tagsAnswer, answerFrom13}
+use Rattle.mac.specs.Modes.{elementAnswer, tagsAnswer, answerFrom9}
 use Rattle.mac.specs.Result.{outputAfter}
-use Rattle.mac.specs.Selection.{valueOf, firstItem, signatureItem, macIdOf, parametersItem, lessNul, badTransferSyntax, isTerm, badAlgorithm, parametersSelect, select}
-use Rattle.mac.specs.SignatureMode.{named, leftOut, own, streamBy, answerBy, stream, answer}
+use Rattle.mac.specs.Selection.{valueOf, firstItem, signatureItem, macIdOf, parametersItem, lessNul, badTransferSyntax, isTerm, algorithmOf, parametersSelect, selectIn}
+use Rattle.mac.specs.SignatureMode.{named, leftOut, own, streamBy, selectionAnswer, streamIn, answerTo15, answer}
 use Rattle.mac_theorems.specs.SignatureExamples.{examples, SignatureExamplesHold}
 
 pub signature-examples-hold : SignatureExamplesHold
-unfolding examples answer answerBy streamBy own leftOut named select parametersSelect badAlgorithm isTerm allAre badTransferSyntax lessNul parametersItem macIdOf signatureItem firstItem valueOf sameBytes answerFrom13 outputAfter stream _orElse_ if_then_else_ listAnswer badSize ascendingAnswer unbarredAnswer barred tagsIn tagsAnswer elementAnswer holdsUN listedStream streamOf elementOf dataSet elementsAt elementsBy byHeader byOne byItem deeper elementAt vrOnAt byForm longAt badLength tooDeep undefinedBy definedBy valueBy itemAt itemBy endsAt closedBy formOf oneOf num16 num32 tagAt vrAt between
+unfolding examples answer answerTo15 selectionAnswer streamBy own leftOut named selectIn parametersSelect algorithmOf isTerm allAre badTransferSyntax lessNul parametersItem macIdOf signatureItem firstItem valueOf sameBytes answerFrom9 outputAfter streamIn _orElse_ if_then_else_ listAnswer badSize ascendingAnswer unbarredAnswer barred tagsIn tagsAnswer elementAnswer holdsUN listedStream streamOf elementOf dataSet sizeAnswer unlessRefused elementsAt elementsBy byHeader byOne byItem deeper elementAt vrOnAt byForm longAt badLength tooDeep undefinedBy definedBy valueBy itemAt itemBy endsAt closedBy formOf oneOf num16 num32 tagAt vrAt between
 signature-examples-hold = refl

@@ -5,6 +5,7 @@ use mathlib.Core.Path.{_≡_, refl, sym, ap, _∙_}
 use mathlib.Core.Bool.{Bool, true, false, true≢false}
 use mathlib.Core.List.{List, _++_}
 use mathlib.Core.Option.{Option}
+use mathlib.Core.Option as Opt
 use native.Mathlib.Omega.{arith}
 use lib.Dec.{ltb}
 use lib.ListN.{length, length-append}
@@ -16,20 +17,19 @@ use Rattle.answer.proofs.laws.Chain.{or-else-first, or-else-second, or-else-ass
 use Rattle.dataset.specs.Tree.{Elements}
 use Rattle.dataset.specs.Reading.{Reading, fault, read, dataSet, answerOf, tree}
 use Rattle.dataset.specs.Lookup.{elementOf}
-use Rattle.mac.specs.TagList.{tagsIn, listAnswer}
 use Rattle.mac.specs.Stream.{elementsStream}
-use Rattle.mac.specs.Modes.{tagsAnswer, badDigestLength, answerFrom13}
+use Rattle.mac.specs.Modes.{badDigestLength, answerFrom9}
 use Rattle.mac.specs.ListMode as listMode
-use Rattle.mac.specs.Selection.{signatureItem, select, numberOf, selected}
-use Rattle.mac.specs.SignatureMode.{own, streamBy, answerBy, Call, selection, stream, answer}
+use Rattle.mac.specs.Selection.{Algorithm, signatureItem, selectIn, select, selected}
+use Rattle.mac.specs.SignatureMode.{own, streamBy, selectionAnswer, Call, selection, streamIn, stream, answerTo15, answer}
+use Rattle.mac.specs.declared.signature_mode.Signature.{Signature}
+use Rattle.mac.specs.declared.signature_mode.Signature.the-variants as signature
 use Rattle.mac_theorems.specs.Theorems.{asList, SignatureStream}
-use Rattle.mac_theorems.proofs.Acceptance.{IsRead, read-is, answer-read}
+use Rattle.mac_theorems.proofs.Acceptance.{IsRead, read-is, to15-read}
+use Rattle.mac_theorems.proofs.SelectedItem.{select-holds}
 
 -- ---- the end of the order, of a stream and of a longer one
-module _ (tags : List ℕ) (es : Elements) (first all : List ℕ) (room : ℕ) (expected : Option (List ℕ)) (l : length first ≤ length all) where
-  abbrev t : Answer
-  t = tagsAnswer 0 tags es
-
+module _ (first all : List ℕ) (room : ℕ) (expected : Option (List ℕ)) (l : length first ≤ length all) where
   abbrev whole : Answer
   whole = if ltb room (length all) then refused 16 0 else accepted (length all)
 
@@ -50,52 +50,64 @@ module _ (tags : List ℕ) (es : Elements) (first all : List ℕ) (room : ℕ) (
       ∙ ap (λ (x : Answer). (if ltb room (length first) then refused 16 0 else accepted 0) orElse x) (or-else-second (accepted (length first)) whole refl)
       ∙ room-again (ltb room (length first)) (ltb room (length all)) refl refl
 
-  from13-more : answerFrom13 tags es all room expected ≡ (answerFrom13 tags es first room expected orElse whole)
-  unfolding answerFrom13
-  from13-more =
-      ap (λ (x : Answer). t orElse digest orElse x) (sym after)
-      ∙ sym (or-else-assoc t _ whole ∙ ap (λ (x : Answer). t orElse x) (or-else-assoc digest _ whole))
+  from9-more : answerFrom9 all room expected ≡ (answerFrom9 first room expected orElse whole)
+  unfolding answerFrom9
+  from9-more = ap (λ (x : Answer). digest orElse x) (sym after) ∙ sym (or-else-assoc digest _ whole)
     where
       digest : Answer
       digest = if badDigestLength expected then refused 9 0 else accepted 0
 
 -- ---- a call that selects a list
-module _ (c : Call) (list : List ℕ) (item : Elements) (e : selection c ≡ selected list item) where
+
+-- what is signed is the data set itself
+same-elements : (uid : List ℕ) (which : Signature) (whole : Elements) (d list : List ℕ) (algorithm : Algorithm) (es item : Elements)
+    → select uid which whole d ≡ selected list algorithm es item → es ≡ whole
+same-elements uid which whole d list algorithm es item e =
+    select-holds (λ s. s ≡ selected list algorithm es item → es ≡ whole) (λ number l u q. absurd (true≢false (cc)))
+    uid which whole d (λ other i listed named q. cc) e
+
+-- there is no signature item among no elements
+no-item : (which : Signature) → signatureItem which Elements.none ≡ Opt.none
+unfolding signatureItem elementOf
+no-item signature.Unnamed = refl
+no-item (signature.Number number) = refl
+
+module _ (c : Call) (list : List ℕ) (algorithm : Algorithm) (item : Elements) (e : selection c ≡ selected list algorithm (tree (c .set)) item) where
   abbrev d : List ℕ
   d = c .set
 
   streams : stream c ≡ listMode.stream (asList c list) ++ elementsStream (own item) d
-  unfolding stream streamBy listMode.stream
+  unfolding streamIn streamBy listMode.streamIn
   streams = rw e
 
   -- its data set is read: nothing is selected in a refused one
   is-read : (p : Reading Elements) → dataSet d ≡ p → IsRead d
-  unfolding select signatureItem elementOf
+  unfolding selectIn
   is-read (fault f) q =
-      let z : select (c .uid) (numberOf (c .which)) Elements.none d ≡ selected list item = rw q at e in
-      absurd (true≢false (cc))
+      let z : select (c .uid) (c .which) Elements.none d ≡ selected list algorithm Elements.none item = rw q at e in
+      let y = no-item (c .which) in
+      absurd (true≢false (cc (rw y at z)))
   is-read (read es n) q = read-is d es n q
 
   module _ (r : IsRead d) where
-    abbrev es : Elements
-    es = tree d
-
     read-number : answerOf (dataSet d) .number ≡ 0
     read-number = ap (λ (p : Reading Elements). answerOf p .number) (r .is)
 
-    signature-answer : answer c ≡ (listAnswer list orElse answerFrom13 (tagsIn list) es (stream c) (c .room) (c .expected))
-    unfolding answer answerBy stream
-    signature-answer = or-else-second (answerOf (dataSet d)) _ read-number ∙ rw e
+    -- the order up to 15 is list mode's
+    same-to15 : answerTo15 (c .uid) (c .which) d ≡ listMode.answerTo15 list d
+    unfolding answerTo15 selectionAnswer
+    same-to15 = or-else-second (answerOf (dataSet d)) _ read-number ∙ rw e (sym (to15-read list d r))
 
     answers : answer c ≡ (listMode.answer (asList c list) orElse (if ltb (c .room) (length (stream c)) then refused 16 0 else accepted (length (stream c))))
+    unfolding answer listMode.answer
     answers =
         let n = ap length streams ∙ length-append (listMode.stream (asList c list)) (elementsStream (own item) d) in
-        let m = from13-more (tagsIn list) es (listMode.stream (asList c list)) (stream c) (c .room) (c .expected) (omega (arith, n)) in
-        signature-answer ∙ ap (λ (x : Answer). listAnswer list orElse x) m
-        ∙ sym (ap (λ (x : Answer). x orElse whole-of) (answer-read (asList c list) r) ∙ or-else-assoc (listAnswer list) _ whole-of)
-      where
-        whole-of : Answer
-        whole-of = if ltb (c .room) (length (stream c)) then refused 16 0 else accepted (length (stream c))
+        ap (λ (x : Answer). x orElse answerFrom9 (stream c) (c .room) (c .expected)) same-to15
+        ∙ ap (λ (x : Answer). listMode.answerTo15 list d orElse x) (from9-more (listMode.stream (asList c list)) (stream c) (c .room) (c .expected) (omega (arith, n)))
+        ∙ sym (or-else-assoc (listMode.answerTo15 list d) _ _)
 
 pub signature-stream : SignatureStream
-signature-stream c list item e = record { streams = streams c list item e; answers = answers c list item e (is-read c list item e (dataSet (c .set)) refl) }
+signature-stream c list algorithm es item e =
+    let same = same-elements (c .uid) (c .which) (tree (c .set)) (c .set) list algorithm es item e in
+    let q : selection c ≡ selected list algorithm (tree (c .set)) item = e ∙ ap (λ (x : Elements). selected list algorithm x item) same in
+    record { streams = streams c list algorithm item q; answers = answers c list algorithm item q (is-read c list algorithm item q (dataSet (c .set)) refl) }

@@ -4,21 +4,20 @@ use mathlib.Core.Path.{_≡_, sym, ap, _∙_}
 use mathlib.Core.Bool.{true, true≢false}
 use native.Mathlib.Omega.{arith}
 use lib.ListN.{length}
-use borrow.Author.Tests.{eq-eqb, eqb-true, ltb-false}
+use borrow.Author.Tests.{eq-eqb}
 use Rattle.answer.specs.declared.Answer.{Answer}
 use Rattle.answer.specs.Answer.{accepted}
 use Rattle.mac.specs.Result.{isAccepted}
-use Rattle.mac.specs.ListMode as listMode
 use Rattle.mac_theorems.specs.Calls.{EitherCall, inListMode, inSignatureMode, roomOf, resultOf}
 use Rattle.mac_theorems.specs.Removed17.{Without17}
 use Rattle.mac_theorems.specs.Theorems.{Numbers, Positions, AcceptedOutput, RefusedOutput, VerdictExact, EnoughRoom, Theorems}
 use Rattle.mac_theorems.proofs.Answers.{Regular, answer-regular}
-use Rattle.mac_theorems.proofs.Acceptance.{accepts, answer-accepted}
+use Rattle.mac_theorems.proofs.Acceptance.{answer-accepted, answer-fits}
 use Rattle.mac_theorems.proofs.SignatureAcceptance as signed
 use Rattle.mac_theorems.proofs.Outputs.{output-stream, output-rest, output-room, output-refused}
 use Rattle.mac_theorems.proofs.Verdicts.{says}
 use Rattle.mac_theorems.proofs.SignatureStream.{signature-stream}
-use Rattle.mac_theorems.proofs.CheckAnswers.{checks-as-stream}
+use Rattle.mac_theorems.proofs.CheckAnswers.{checks-as-stream, measures-as-stream}
 use Rattle.mac_theorems.proofs.SignatureStreamLength.{never-longer}
 use Rattle.mac_theorems.proofs.Removed17.{answers-same}
 
@@ -32,7 +31,7 @@ call-accepted (inListMode c) h = answer-accepted c h
 call-accepted (inSignatureMode c) h = signed.answer-accepted c h
 
 call-fits : (c : EitherCall) → isAccepted (resultOf c) ≡ true → length (resultOf c .stream) ≤ roomOf c
-call-fits (inListMode c) h = ltb-false (c .room) (length (listMode.stream c)) (accepts c (eqb-true (listMode.answer c .number) 0 h) .from13 .fits)
+call-fits (inListMode c) h = answer-fits c h
 call-fits (inSignatureMode c) h = signed.answer-fits c h
 
 without-17 : Without17
@@ -76,6 +75,7 @@ theorems = record {
   refused-output = refused-output;
   verdict-exact = verdict-exact;
   checks-as-stream = checks-as-stream;
+  measures-as-stream = measures-as-stream;
   never-longer = never-longer;
   enough-room = enough-room;
   signature-stream = signature-stream;

@@ -24,7 +24,7 @@ setOf (inSignatureMode c) = c .set
 
 abbrev pub selectedList : Selection → List ℕ
 selectedList (refusal number) = []
-selectedList (selected list item) = list
+selectedList (selected list algorithm es item) = list
 
 abbrev pub listOf : EitherCall → List ℕ
 listOf (inListMode c) = c .list

@@ -16,7 +16,7 @@ use Rattle.answer.specs.declared.Answer.{Answer}
 use Rattle.answer.specs.Answer.{accepted, refused, _orElse_}
 use Rattle.dataset.specs.Vr.{UN}
 use Rattle.dataset.specs.Tree.{Elements}
-use Rattle.dataset.specs.Reading.{sizeLimit, dataSet, answerOf, tree}
+use Rattle.dataset.specs.Reading.{sizeAnswer, dataSet, answerOf, tree}
 use Rattle.mac.specs.TagList.{tagsIn, listAnswer}
 use Rattle.mac.specs.Content.{SignedElement, SignedElements, SignedItems, signedElements, content}
 use Rattle.mac.specs.Modes.{tagsAnswer, badDigestLength}
@@ -61,7 +61,7 @@ signatureWritesUN list item es d = contentWritesUN (content (tagsIn list) es d) 
 
 -- ---- the orders as they were
 
--- 13, 14, 15 for each tag in turn, then 9, 16, 17: `answerFrom13`, with 17 in its place
+-- 13, 14, 15 for each tag in turn, then 9, 16, 17: `tagsAnswer` and `answerFrom9`, with 17 in its place
 unfoldable pub answerFrom13With17 : (tags : List ℕ) → Elements → (metUN : Bool) (stream : List ℕ) (room : ℕ) (expected : Option (List ℕ)) → Answer
 answerFrom13With17 tags es metUN stream room expected =
     tagsAnswer 0 tags es
@@ -73,22 +73,22 @@ answerFrom13With17 tags es metUN stream room expected =
 -- the order of list mode (docs/RULES.md, 9.4), with 17 behind 16
 unfoldable pub listModeWith17 : listMode.Call → Answer
 listModeWith17 c =
-    (if ltb sizeLimit (length (c .set)) then refused 1 0 else accepted 0)
+    sizeAnswer (c .set)
     orElse listAnswer (c .list)
     orElse answerOf (dataSet (c .set))
     orElse answerFrom13With17 (tagsIn (c .list)) (tree (c .set)) (contentWritesUN (listMode.contentOf c)) (listMode.stream c) (c .room) (c .expected)
 
 -- the order of signature mode from 18 on (9.5), with 17 behind 16
-unfoldable pub answerByWith17 : Selection → Elements → (d : List ℕ) (room : ℕ) (expected : Option (List ℕ)) → Answer
-answerByWith17 (refusal number) es d room expected = refused number 0
-answerByWith17 (selected list item) es d room expected =
+unfoldable pub answerByWith17 : Selection → (d : List ℕ) (room : ℕ) (expected : Option (List ℕ)) → Answer
+answerByWith17 (refusal number) d room expected = refused number 0
+answerByWith17 (selected list algorithm es item) d room expected =
     listAnswer list
-    orElse answerFrom13With17 (tagsIn list) es (signatureWritesUN list item es d) (streamBy (selected list item) es d) room expected
+    orElse answerFrom13With17 (tagsIn list) es (signatureWritesUN list item es d) (streamBy (selected list algorithm es item) d) room expected
 
 -- the whole order of signature mode (9.5), with 17 behind 16
 unfoldable pub signatureModeWith17 : signatureMode.Call → Answer
 signatureModeWith17 c =
-    answerOf (dataSet (c .set)) orElse answerByWith17 (signatureMode.selection c) (tree (c .set)) (c .set) (c .room) (c .expected)
+    answerOf (dataSet (c .set)) orElse answerByWith17 (signatureMode.selection c) (c .set) (c .room) (c .expected)
 
 abbrev pub answerWith17 : EitherCall → Answer
 answerWith17 (inListMode c) = listModeWith17 c

@@ -20,7 +20,7 @@ use Rattle.mac.specs.TagList.{tagsIn, listAnswer}
 use Rattle.mac.specs.Stream.{elementsStream}
 use Rattle.mac.specs.Result.{Result, isAccepted, outputAfter, neither, same, differs, verdictOf}
 use Rattle.mac.specs.ListMode as listMode
-use Rattle.mac.specs.Selection.{selected}
+use Rattle.mac.specs.Selection.{Algorithm, selected}
 use Rattle.mac.specs.SignatureMode.{own}
 use Rattle.mac.specs.SignatureMode as signatureMode
 use Rattle.mac.specs.declared.signature_mode.Signature.{Signature}
@@ -88,6 +88,13 @@ pub record ChecksAsStream : Type 0 where
       → signatureMode.answer (signatureMode.checkCall uid which set expected work)
       ≡ signatureMode.answer (signatureMode.streamCall uid which set work)
 
+-- measuring answers as the call for the stream does with room enough
+pub record MeasuresAsStream : Type 0 where
+  pub of-list : (list set out : List ℕ) → length (listMode.streamIn list set) ≤ length out
+      → listMode.answer (listMode.streamCall list set out) ≡ listMode.measure list set
+  pub of-signature : (uid : List ℕ) (which : Signature) (set out : List ℕ) → length (signatureMode.streamIn uid which set) ≤ length out
+      → signatureMode.answer (signatureMode.streamCall uid which set out) ≡ signatureMode.measure uid which set
+
 -- ---- the length of the stream
 
 -- 5.6: "No stream has more bytes than its data set.": wherever a list is there and not refused, so in every accepted call (where nothing is
@@ -116,7 +123,8 @@ pub record ListsFirst (c : signatureMode.Call) (list : List ℕ) (item : Element
 
 abbrev pub SignatureStream : Type 0
 SignatureStream =
-    (c : signatureMode.Call) (list : List ℕ) (item : Elements) → signatureMode.selection c ≡ selected list item → ListsFirst c list item
+    (c : signatureMode.Call) (list : List ℕ) (algorithm : Algorithm) (es item : Elements)
+    → signatureMode.selection c ≡ selected list algorithm es item → ListsFirst c list item
 
 -- all of them
 pub record Theorems : Type 0 where
@@ -127,6 +135,7 @@ pub record Theorems : Type 0 where
   pub refused-output : RefusedOutput
   pub verdict-exact : VerdictExact
   pub checks-as-stream : ChecksAsStream
+  pub measures-as-stream : MeasuresAsStream
   pub never-longer : NeverLonger
   pub enough-room : EnoughRoom
   pub signature-stream : SignatureStream

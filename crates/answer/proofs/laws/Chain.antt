@@ -1,6 +1,6 @@
 -- Laws of refusals in their written order, `_orElse_`. Assumes nothing.
 use Prim.Native.Nat.{ℕ}
-use mathlib.Core.Path.{_≡_, refl, sym, _∙_}
+use mathlib.Core.Path.{_≡_, refl, sym, ap, _∙_}
 use mathlib.Core.Logic.{_≢_}
 use mathlib.Core.Bool.{Bool, true, false, false≢true}
 use lib.Dec.{eqb}
@@ -27,6 +27,10 @@ or-else-same a b c h = go (eqb (a .number) 0) refl
     go : (x : Bool) → eqb (a .number) 0 ≡ x → (if x then b else a) ≡ (if x then c else a)
     go true e = h (eqb-true (a .number) 0 e)
     go false e = refl
+
+-- where the chain is refused and its second would be accepted the first stands, whatever comes second
+pub or-else-refuses : (a b c : Answer) → b .number ≡ 0 → ((a orElse b) .number ≡ 0 → ⊥) → (a orElse b) ≡ (a orElse c)
+or-else-refuses a b c z h = or-else-same a b c (λ k. absurd (h (ap (λ (x : Answer). x .number) (or-else-second a b k) ∙ z)))
 
 pub or-else-assoc : (a b c : Answer) → ((a orElse b) orElse c) ≡ (a orElse (b orElse c))
 unfolding _orElse_ if_then_else_

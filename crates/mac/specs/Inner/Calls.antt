@@ -1,30 +1,33 @@
 -- For inner contracts; no part of what a reader has to believe: the functions that both modes share.
 -- Assumes nothing.
-use Prim.Native.Nat.{ℕ, _+_, _≤_}
+use Prim.Native.Nat.{ℕ, _+_, _-_, _≤_}
 use mathlib.Core.Path.{_≡_}
-use mathlib.Core.Bool.{Bool}
 use mathlib.Core.List.{List, [], _++_}
 use mathlib.Core.Option.{Option}
-use lib.ListN.{length}
+use lib.ListN.{length, take, drop}
 use lib.Seq.{sets}
 use Rattle.answer.specs.declared.Answer.{Answer}
 use Rattle.answer.specs.Answer.{accepted, _orElse_}
 use Rattle.dataset.specs.Tree.{Elements}
-use Rattle.dataset.specs.Reading.{Reading, fault, read, treeOf}
-use Rattle.digest.specs.Message.{limit}
-use Rattle.mac.specs.TagList.{tagsIn, listAnswer}
+use Rattle.dataset.specs.Reading.{Reading, fault, read, sizeLimit, treeOf}
+use Rattle.mac.specs.TagList.{tagsIn, ascendingAnswer, listAnswer}
 use Rattle.mac.specs.Stream.{listedStream}
-use Rattle.mac.specs.Modes.{tagsAnswer, badDigestLength, answerFrom13}
+use Rattle.mac.specs.Modes.{tagsAnswer, answerFrom9}
 use Rattle.mac.specs.Result.{Result, outputAfter}
 use Rattle.mac.specs.ListMode as listMode
 use Rattle.mac.specs.SignatureMode as signatureMode
 use Rattle.dataset.specs.Place.{Lies}
 use Rattle.dataset.specs.Extent.{elementsIn}
 use Rattle.mac.specs.Inner.Own.{ownStream}
+use Rattle.mac.specs.Inner.Verdict.{lengthOf}
 use Rattle.dataset.specs.declared.extent.Extent.{Extent}
 use Rattle.mac.specs.declared.modes.SignatureItem.{SignatureItem}
 use Rattle.mac.specs.declared.modes.SignatureItem.the-variants as signatureItem
+use Rattle.mac.specs.declared.selection.Selected.{Selected}
 use Rattle.mac.specs.declared.signature_mode.Signature.{Signature}
+use Rattle.mac.specs.declared.signature_mode.Measured.{Measured}
+use Rattle.mac.specs.declared.signature_mode.Measured.the-variants as measured
+use Rattle.mac.specs.declared.verdict.ExpectedLength.{ExpectedLength}
 
 -- ---- the listed elements and what follows them
 
@@ -62,48 +65,73 @@ pub record StreamWalk (list d : List ℕ) (x : Extent) (item : SignatureItem) (r
   pub output : StreamLeaves (tagsIn list) d item (elementsIn d x) before after
   pub short : r .length ≤ length d + length d
 
--- ---- the end of the order
+-- ---- measuring: 10 to 15, and the stream's length
 
--- what a call answers, r, and leaves in the output
+abbrev pub measureIn : (list d : List ℕ) → Extent → SignatureItem → Answer
+measureIn list d x item = listAnswer list orElse walkAnswer (tagsIn list) d item (elementsIn d x)
+
+-- none of 10 to 15 is given: what the walk that writes asks for, and the length of the stream
+pub record Measures (list d : List ℕ) (x : Extent) (item : SignatureItem) (long : ℕ) : Type 0 where
+  pub ascends : ascendingAnswer 0 0 (tagsIn list) ≡ accepted 0
+  pub lies : Lies d x
+  pub item-reads : SignatureItemReads d item
+  pub elements : Elements
+  pub next : ℕ
+  pub reads : elementsIn d x ≡ read elements next
+  pub found : tagsAnswer 0 (tagsIn list) elements .number ≡ 0
+  pub long-is : long ≡ length (wholeStream (tagsIn list) elements d item)
+
+-- ---- a call, by its expected digest: what is answered, r, and left in the output
+
 pub record Left (c : Result) (out : List ℕ) (r : Answer) (after : List ℕ) : Type 0 where
   pub answers : r ≡ c .answer
   pub output : after ≡ outputAfter c out
 
--- what is answered and left where the data set is read
-abbrev pub ReadFrom13 : (list d : List ℕ) → Elements → SignatureItem → (bad : Bool) (out : List ℕ) (r : Answer) (after : List ℕ) → Type 0
-ReadFrom13 list d es item bad out r after =
-    (expected : Option (List ℕ)) → badDigestLength expected ≡ bad
-    → Left
-    (record {
-      answer = answerFrom13 (tagsIn list) es (wholeStream (tagsIn list) es d item) (length out) expected;
-      stream = wholeStream (tagsIn list) es d item;
-      expected = expected;
-    })
-    out r after
-
-pub record AnsweredFrom13 (list d : List ℕ) (x : Extent) (item : SignatureItem) (bad : Bool) (out : List ℕ) (r : Answer) (after : List ℕ) : Type 0 where
-  pub refused : (f : Answer) → elementsIn d x ≡ fault f → (r ≡ f) × (after ≡ out)
-  pub streamed : (es : Elements) (next : ℕ) → elementsIn d x ≡ read es next → ReadFrom13 list d es item bad out r after
-  pub long : (es : Elements) (next : ℕ) → elementsIn d x ≡ read es next → r .number ≡ 0 → r .length ≡ length (wholeStream (tagsIn list) es d item)
+-- for each expected digest of the length that is given
+pub record CallAnswered (call : Option (List ℕ) → Result) (given : ExpectedLength) (most : ℕ) (out : List ℕ) (r : Answer) (after : List ℕ) : Type 0 where
+  pub streamed : (expected : Option (List ℕ)) → lengthOf expected ≡ given → Left (call expected) out r after
+  pub long : (expected : Option (List ℕ)) → r .number ≡ 0 → r .length ≡ length (call expected .stream)
   pub room : r .number ≡ 0 → r .length ≤ length out
-  pub short : r .number ≡ 0 → r .length ≤ length d + length d
+  pub short : r .number ≡ 0 → r .length ≤ most
 
--- the list's refusal, or what is answered and left from 13 on
-pub record AnsweredFrom10 (list d : List ℕ) (x : Extent) (item : SignatureItem) (bad : Bool) (out : List ℕ) (r : Answer) (after : List ℕ) : Type 0 where
-  pub refused : (listAnswer list .number ≡ 0 → ⊥) → (r ≡ listAnswer list) × (after ≡ out)
-  pub on : listAnswer list .number ≡ 0 → AnsweredFrom13 list d x item bad out r after
+-- the end of the order, 9 and 16
+abbrev pub callFrom9 : (stream : List ℕ) (room : ℕ) → Option (List ℕ) → Result
+callFrom9 stream room expected = record { answer = answerFrom9 stream room expected; stream = stream; expected = expected }
 
--- ---- a call in either mode, by its expected digest
+-- the stream in the extent x
+abbrev pub streamAt : (list d : List ℕ) → Extent → SignatureItem → List ℕ
+streamAt list d x item = wholeStream (tagsIn list) (treeOf (elementsIn d x)) d item
 
+abbrev pub AnsweredFrom9 : (list d : List ℕ) → Extent → SignatureItem → (given : ExpectedLength) (out : List ℕ) (r : Answer) (after : List ℕ) → Type 0
+AnsweredFrom9 list d x item given out r after =
+    CallAnswered (callFrom9 (streamAt list d x item) (length out)) given (length d + length d) out r after
+
+-- list mode and signature mode
 abbrev pub listCall : (list d out : List ℕ) → Option (List ℕ) → Result
 listCall list d out expected = listMode.result (record { list = list; set = d; room = length out; expected = expected })
 
 abbrev pub signatureCall : (uid : List ℕ) (which : Signature) (d out : List ℕ) → Option (List ℕ) → Result
 signatureCall uid which d out expected = signatureMode.result (record { uid = uid; which = which; set = d; room = length out; expected = expected })
 
--- what is answered and left for each expected digest that is not 32 bytes (`bad`), or is
-pub record CallAnswered (call : Option (List ℕ) → Result) (bad : Bool) (out : List ℕ) (r : Answer) (after : List ℕ) : Type 0 where
-  pub streamed : (expected : Option (List ℕ)) → badDigestLength expected ≡ bad → Left (call expected) out r after
-  pub long : (expected : Option (List ℕ)) → r .number ≡ 0 → r .length ≡ length (call expected .stream)
-  pub room : r .number ≡ 0 → r .length ≤ length out
-  pub short : r .number ≡ 0 → r .length ≤ limit
+-- ---- a signature that is measured
+
+-- the list of what is selected
+abbrev pub listIn : List ℕ → Selected → List ℕ
+listIn d s = take (s .end - s .start) (drop (s .start) d)
+
+pub record SignatureMeasures (uid : List ℕ) (which : Signature) (d : List ℕ) (s : Selected) (r : Answer) : Type 0 where
+  pub answers : r ≡ signatureMode.measure uid which d
+  pub number : r .number ≡ 0
+  pub order : s .start ≤ s .end
+  pub inside : s .end ≤ length d
+  pub small : length d ≤ sizeLimit
+  pub measures : Measures (listIn d s) d (s .signed) (signatureItem.Item (s .item)) (r .length)
+  pub stream-is : streamAt (listIn d s) d (s .signed) (signatureItem.Item (s .item)) ≡ signatureMode.streamIn uid which d
+
+pub record SignatureRefused (uid : List ℕ) (which : Signature) (d : List ℕ) (r : Answer) : Type 0 where
+  pub answers : r ≡ signatureMode.measure uid which d
+  pub number : r .number ≡ 0 → ⊥
+
+abbrev pub SignatureMeasured : (uid : List ℕ) (which : Signature) (d : List ℕ) → Measured → Type 0
+SignatureMeasured uid which d (measured.Refused r) = SignatureRefused uid which d r
+SignatureMeasured uid which d (measured.Accepted s r) = SignatureMeasures uid which d s r

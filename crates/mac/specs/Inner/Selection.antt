@@ -14,7 +14,7 @@ use Rattle.dataset.specs.Vr.{CS, UI, US}
 use Rattle.dataset.specs.Tree.{Element, Elements, Items}
 use Rattle.dataset.specs.Reading.{Reading, fault, read}
 use Rattle.dataset.specs.Lookup.{elementOf}
-use Rattle.mac.specs.Selection.{itemsOf, valueOf, firstItem, itemWhere, twoBytes, macIdOf, isId, lessNul, badTransferSyntax, badAlgorithm, parametersSelect, select, refusal, selected}
+use Rattle.mac.specs.Selection.{itemsOf, valueOf, firstItem, itemWhere, twoBytes, macIdOf, isId, lessNul, badTransferSyntax, algorithmOf, parametersSelect, selectIn, select, refusal, selected}
 use Rattle.dataset.specs.Tags.{macIdNumber, dataElementsSigned, macParametersSequence, digitalSignaturesSequence}
 use Rattle.mac.specs.Selection as mode
 use Rattle.dataset.specs.Place.{Lies, Placed}
@@ -25,14 +25,26 @@ use Rattle.mac.specs.declared.selection.ItemKey.{ItemKey}
 use Rattle.mac.specs.declared.selection.ItemKey.the-variants as key
 use Rattle.mac.specs.declared.selection.FoundItem.{FoundItem}
 use Rattle.mac.specs.declared.selection.FoundItem.the-variants as found
+use Rattle.mac.specs.declared.selection.Algorithm.{Algorithm}
+use Rattle.mac.specs.declared.selection.Algorithm.the-variants as algorithm
+use Rattle.mac.specs.declared.selection.FoundAlgorithm.{FoundAlgorithm}
+use Rattle.mac.specs.declared.selection.FoundAlgorithm.the-variants as foundAlgorithm
+use Rattle.mac.specs.declared.selection.Selected.{Selected}
 use Rattle.mac.specs.declared.selection.Selection.{Selection}
 use Rattle.mac.specs.declared.selection.Selection.the-variants as selection
+use Rattle.mac.specs.declared.signature_mode.Signature.{Signature}
+use Rattle.mac.specs.declared.signature_mode.Signature.the-variants as signature
 
 -- ---- the item that has a key
 
 abbrev pub hasKey : List ℕ → ItemKey → (index : ℕ) → Elements → Bool
 hasKey d (key.Number n) index es = eqb index n
 hasKey d (key.MacId start end) index es = isId (between d start end) (macIdOf es d)
+
+-- by what the signature item is found
+abbrev pub keyOf : Signature → ItemKey
+keyOf signature.Unnamed = key.Number 0
+keyOf (signature.Number number) = key.Number number
 
 abbrev pub KeyLies : List ℕ → ItemKey → Type 0
 KeyLies d (key.Number n) = Unit {0}
@@ -59,12 +71,12 @@ FoundItemIn d w index (fault f) r = Unit {0}
 FoundItemIn d w index (read items next) r = FoundItemAs d (firstItem (hasKey d w) index items) r
 
 -- r is this test of the value of this VR that the element at p has, or of none
-pub record Tests (vr : ℕ) (test : Option (List ℕ) → Bool) (d : List ℕ) (p : Place) (r : Bool) : Type 0 where
+pub record Tests (A : Type 0) (vr : ℕ) (test : Option (List ℕ) → A) (d : List ℕ) (p : Place) (r : A) : Type 0 where
   pub says : (o : Option Element) → Placed d o p → r ≡ test (valueOf vr o d)
 
 -- whether it is a MAC ID Number with these bytes
 abbrev pub SameMacId : List ℕ → Place → (start end : ℕ) → Bool → Type 0
-SameMacId d p start end r = Tests US (λ value. isId (between d start end) (twoBytes value)) d p r
+SameMacId d p start end r = Tests Bool US (λ value. isId (between d start end) (twoBytes value)) d p r
 
 -- whether the item es, whose MAC ID Number lies at p, has the key
 abbrev pub TestsKey : List ℕ → ItemKey → (index : ℕ) → Place → Bool → Type 0
@@ -82,40 +94,50 @@ pub record LessNul (value : List ℕ) (r : ℕ) : Type 0 where
   pub is : take r value ≡ lessNul value
 
 abbrev pub BadSyntax : (uid d : List ℕ) → Place → Bool → Type 0
-BadSyntax uid d p r = Tests UI (badTransferSyntax uid) d p r
+BadSyntax uid d p r = Tests Bool UI (badTransferSyntax uid) d p r
 
-abbrev pub BadAlgorithm : List ℕ → Place → Bool → Type 0
-BadAlgorithm d p r = Tests CS badAlgorithm d p r
+-- the code's cases
+abbrev pub algorithmCase : mode.Algorithm → Algorithm
+algorithmCase mode.Algorithm.ofSHA256 = algorithm.Sha256
+
+abbrev pub foundCase : Option mode.Algorithm → FoundAlgorithm
+foundCase Opt.none = foundAlgorithm.Absent
+foundCase (some a) = foundAlgorithm.Named (algorithmCase a)
+
+abbrev pub AlgorithmOf : List ℕ → Place → FoundAlgorithm → Type 0
+AlgorithmOf d p r = Tests FoundAlgorithm CS (λ value. foundCase (algorithmOf value)) d p r
 
 -- ---- what is selected
 
-pub record IsSelected (d list : List ℕ) (item : Elements) (r : Selection) : Type 0 where
-  pub start : ℕ
-  pub end : ℕ
-  pub extent : Extent
-  pub is : r ≡ selection.Selected start end extent
-  pub order : start ≤ end
-  pub inside : end ≤ length d
-  pub listed : list ≡ between d start end
-  pub lies : Lies d extent
+-- the list, the algorithm, the elements es of the data set that is signed and those of the signature item are the code's `parts`
+pub record IsSelected (d list : List ℕ) (a : mode.Algorithm) (es item : Elements) (parts : Selected) : Type 0 where
+  pub order : parts .start ≤ parts .end
+  pub inside : parts .end ≤ length d
+  pub listed : list ≡ between d (parts .start) (parts .end)
+  pub algorithm : parts .algorithm ≡ algorithmCase a
+  pub lies : Lies d (parts .signed)
   pub next : ℕ
-  pub reads : elementsIn d extent ≡ read item next
+  pub reads : elementsIn d (parts .signed) ≡ read es next
+  pub item-lies : Lies d (parts .item)
+  pub item-next : ℕ
+  pub item-reads : elementsIn d (parts .item) ≡ read item item-next
 
 abbrev pub SelectionAs : List ℕ → mode.Selection → Selection → Type 0
 SelectionAs d (refusal number) r = r ≡ selection.Refused (refused number 0)
-SelectionAs d (selected list item) r = IsSelected d list item r
+SelectionAs d (selected list a es item) r = (parts : Selected) × (r ≡ selection.Selected parts) × IsSelected d list a es item parts
 
--- by the extents of the signature item and of the parameters item, and the place of the list in the latter
-pub record ListOf (uid d : List ℕ) (item parameters : Extent) (list : Place) (r : Selection) : Type 0 where
-  pub says : (es ps : Elements) (n m : ℕ) → elementsIn d item ≡ read es n → elementsIn d parameters ≡ read ps m → Placed d (elementOf dataElementsSigned ps) list
-      → SelectionAs d (parametersSelect uid d es ps) r
+-- by the extents of the data set that is signed, of the signature item and of the parameters item, and the place of the list in the latter
+pub record ListOf (uid d : List ℕ) (signed item parameters : Extent) (list : Place) (r : Selection) : Type 0 where
+  pub says : (es is ps : Elements) (k n m : ℕ) → elementsIn d signed ≡ read es k → elementsIn d item ≡ read is n → elementsIn d parameters ≡ read ps m
+      → Placed d (elementOf dataElementsSigned ps) list → SelectionAs d (parametersSelect uid d es is ps) r
 
--- by the places of the two sequences
-pub record SelectOf (uid : List ℕ) (number : ℕ) (d : List ℕ) (parameters signatures : Place) (r : Selection) : Type 0 where
-  pub says : (es : Elements) → Placed d (elementOf macParametersSequence es) parameters → Placed d (elementOf digitalSignaturesSequence es) signatures
-      → SelectionAs d (select uid number es d) r
+-- by the extent of the data set that is signed and the places of the two sequences in it
+pub record SelectOf (uid : List ℕ) (which : Signature) (d : List ℕ) (signed : Extent) (parameters signatures : Place) (r : Selection) : Type 0 where
+  pub says : (whole es : Elements) (n : ℕ) → elementsIn d signed ≡ read es n
+      → Placed d (elementOf macParametersSequence es) parameters → Placed d (elementOf digitalSignaturesSequence es) signatures
+      → SelectionAs d (selectIn uid which whole d es) r
 
 -- in an extent
-abbrev pub SelectedIn : (uid : List ℕ) (number : ℕ) (d : List ℕ) → Reading Elements → Selection → Type 0
-SelectedIn uid number d (fault f) r = r ≡ selection.Refused f
-SelectedIn uid number d (read es next) r = SelectionAs d (select uid number es d) r
+abbrev pub SelectedIn : (uid : List ℕ) (which : Signature) (d : List ℕ) → Reading Elements → Selection → Type 0
+SelectedIn uid which d (fault f) r = r ≡ selection.Refused f
+SelectedIn uid which d (read es next) r = SelectionAs d (select uid which es d) r

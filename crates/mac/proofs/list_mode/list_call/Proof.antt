@@ -1,21 +1,20 @@
 -- `list_call` meets its contract: each place by its law in ListModeSteps. Assumes nothing.
-use Rattle.mac.proofs.CallSteps as into
 use Rattle.mac.proofs.ListModeSteps as steps
 use borrow.Author.Needs.{needs}
 use Rattle.mac.proofs.list_mode.list_call.Statement.{statement}
 use Rattle.mac.proofs.list_mode.list_call.Tie as tie
 
-refused-requires : tie.Need-refused-requires
-refused-requires c κs = search needs
+list-measure-requires : tie.Need-list-measure-requires
+list-measure-requires c κs = search needs
 
 returns : tie.Need-returns
-returns c = search steps.list-over
+returns c = search steps.list-refused
 
 whole-requires : tie.Need-whole-requires
 whole-requires c κs = search needs
 
-answer-from-10-requires : tie.Need-answer-from-10-requires
-answer-from-10-requires c κs = search (into.whole-lies, needs)
+answer-from-9-requires : tie.Need-answer-from-9-requires
+answer-from-9-requires c κs = search steps.list-measures
 
 same-length : tie.Need-same-length
 same-length c = search needs
@@ -26,4 +25,10 @@ returns-2 c = search steps.list-call
 pub list-call-spec : {M : Type 1} → statement M
 list-call-spec =
     tie.close
-    (tie.spec refused-requires returns whole-requires answer-from-10-requires same-length returns-2)
+    (tie.spec
+    list-measure-requires
+    returns
+    whole-requires
+    answer-from-9-requires
+    same-length
+    returns-2)

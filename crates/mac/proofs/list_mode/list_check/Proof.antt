@@ -4,9 +4,6 @@ use borrow.Author.Needs.{needs}
 use Rattle.mac.proofs.list_mode.list_check.Statement.{statement}
 use Rattle.mac.proofs.list_mode.list_check.Tie as tie
 
-bad-digest-length-requires : tie.Need-bad-digest-length-requires
-bad-digest-length-requires c κs = search needs
-
 list-call-requires : tie.Need-list-call-requires
 list-call-requires c κs = search needs
 
@@ -17,7 +14,7 @@ same-length : tie.Need-same-length
 same-length c = search needs
 
 returns : tie.Need-returns
-returns c = search (steps.list-checked, c .before .before .before .before .before .before .before .before .before .shared-slice-known2 .given)
+returns c = search (steps.list-checked, c .before .before .before .before .before .before .before .before .shared-slice-known2 .given)
 
 pub list-check-spec : {M : Type 1} → statement M
-list-check-spec = tie.close (tie.spec bad-digest-length-requires list-call-requires check-of-requires same-length returns)
+list-check-spec = tie.close (tie.spec list-call-requires check-of-requires same-length returns)

@@ -1,6 +1,6 @@
--- `list_of` meets its contract: each place by its law in SelectSteps. Assumes nothing.
+-- `list_of` meets its contract: each place by its law in ParametersSteps. Assumes nothing.
 use Rattle.mac.proofs.PlaceValues as places
-use Rattle.mac.proofs.SelectSteps as steps
+use Rattle.mac.proofs.ParametersSteps as steps
 use borrow.Author.Needs.{needs}
 use Rattle.mac.proofs.selection.list_of.Statement.{statement}
 use Rattle.mac.proofs.selection.list_of.Tie as tie
@@ -29,8 +29,14 @@ refused-requires-2 c κs = search needs
 returns-2 : tie.Need-returns-2
 returns-2 c = search steps.list-syntax
 
-bad-algorithm-requires : tie.Need-bad-algorithm-requires
-bad-algorithm-requires c κs = search (places.place-lies, places.second-stands)
+algorithm-of-requires : tie.Need-algorithm-of-requires
+algorithm-of-requires c κs = search (places.place-lies, places.second-stands)
+
+enum-known-named : tie.Need-enum-known-named
+enum-known-named c = search needs
+
+enum-told-2 : tie.Need-enum-told-2
+enum-told-2 c = search needs
 
 refused-requires-3 : tie.Need-refused-requires-3
 refused-requires-3 c κs = search needs
@@ -68,7 +74,9 @@ list-of-spec =
     bad-syntax-requires
     refused-requires-2
     returns-2
-    bad-algorithm-requires
+    algorithm-of-requires
+    enum-known-named
+    enum-told-2
     refused-requires-3
     returns-3
     enum-known-list

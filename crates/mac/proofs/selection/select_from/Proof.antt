@@ -1,13 +1,17 @@
 -- `select_from` meets its contract: each place by its law in SelectSteps. Assumes nothing.
 use Rattle.mac.proofs.PlaceValues as places
+use Rattle.mac.proofs.SelectionTests as tests
 use Rattle.mac.proofs.SelectSteps as steps
 use borrow.Author.Tests.{not-true, not-false}
 use borrow.Author.Needs.{needs}
 use Rattle.mac.proofs.selection.select_from.Statement.{statement}
 use Rattle.mac.proofs.selection.select_from.Tie as tie
 
+key-of-requires : tie.Need-key-of-requires
+key-of-requires c κs = search needs
+
 find-item-under-requires : tie.Need-find-item-under-requires
-find-item-under-requires c κs = search (places.place-lies, needs)
+find-item-under-requires c κs = search (places.place-lies, tests.signature-key)
 
 enum-known-signature : tie.Need-enum-known-signature
 enum-known-signature c = search needs
@@ -55,7 +59,7 @@ returns-4 : tie.Need-returns-4
 returns-4 c = search (steps.select-no-parameters, not-false)
 
 list-of-requires : tie.Need-list-of-requires
-list-of-requires c κs = search (steps.item-lies, steps.item-list)
+list-of-requires c κs = (search needs, search steps.item-lies, search steps.item-lies, search steps.item-list)
 
 returns-5 : tie.Need-returns-5
 returns-5 c = search (steps.select-list, not-false)
@@ -64,6 +68,7 @@ pub select-from-spec : {M : Type 1} → statement M
 select-from-spec =
     tie.close
     (tie.spec
+    key-of-requires
     find-item-under-requires
     enum-known-signature
     enum-told

@@ -4,9 +4,6 @@ use borrow.Author.Needs.{needs}
 use Rattle.mac.proofs.signature_mode.signature_check.Statement.{statement}
 use Rattle.mac.proofs.signature_mode.signature_check.Tie as tie
 
-bad-digest-length-requires : tie.Need-bad-digest-length-requires
-bad-digest-length-requires c κs = search needs
-
 signature-call-requires : tie.Need-signature-call-requires
 signature-call-requires c κs = search needs
 
@@ -17,8 +14,8 @@ same-length : tie.Need-same-length
 same-length c = search needs
 
 returns : tie.Need-returns
-returns c = search (steps.signature-checked, c .before .before .before .before .before .before .before .before .before .shared-slice-known2 .given)
+returns c = search (steps.signature-checked, c .before .before .before .before .before .before .before .before .shared-slice-known2 .given)
 
 pub signature-check-spec : {M : Type 1} → statement M
 signature-check-spec =
-    tie.close (tie.spec bad-digest-length-requires signature-call-requires check-of-requires same-length returns)
+    tie.close (tie.spec signature-call-requires check-of-requires same-length returns)

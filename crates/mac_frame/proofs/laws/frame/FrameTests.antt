@@ -7,7 +7,7 @@ use mathlib.Core.List.{List, [], _++_, append-nil}
 use mathlib.Core.Option as Opt
 use native.Mathlib.Decide.{decLt}
 use native.Mathlib.Omega.{arith}
-use borrow.Author.Tests.{lt-ltb, le-ltb, eq-eqb, ne-eqb, eqb-true, eqb-false, ltb-false}
+use borrow.Author.Tests.{lt-ltb, le-ltb, eq-eqb, ne-eqb, eqb-true, eqb-false}
 use lib.Dec.{eqb}
 use lib.ListN.{length, getD, take}
 use Rattle.answer.specs.declared.Answer.{Answer}
@@ -19,7 +19,7 @@ use Rattle.mac.specs.ListMode.{Call, answer, stream, streamCall, result}
 use Rattle.mac_frame.specs.Text.{line, hexLines}
 use Rattle.mac_frame.specs.Frame.{inputLimit, outputRoom, big32, frameOf, frameCall, report, printedBy, printed}
 use Rattle.mac_frame.specs.Inner.Wrote.{Wrote, Holds}
-use Rattle.mac_theorems.proofs.Acceptance.{accepts, answer-accepted}
+use Rattle.mac_theorems.proofs.Acceptance.{answer-accepted, answer-fits}
 use Rattle.mac_theorems.proofs.Outputs.{output-stream}
 use Rattle.mac_frame.proofs.laws.text.TextPieces.{wrote-then}
 use Rattle.mac_frame.specs.declared.frame.Frame.{Frame}
@@ -144,7 +144,7 @@ within-room c a e n =
     let z : answer c .number ≡ 0 = ap (λ (x : Answer). x .number) (sym e) ∙ n in
     let t : isAccepted (result c) ≡ true = eq-eqb (answer c .number) 0 z in
     let l : a .length ≡ length (stream c) = ap (λ (x : Answer). x .length) (e ∙ answer-accepted c t) in
-    let r : length (stream c) ≤ c .room = ltb-false (c .room) (length (stream c)) (accepts c z .from13 .fits) in
+    let r : length (stream c) ≤ c .room = answer-fits c t in
     omega arith
 
 -- the call of a frame is that of the code, with its output of 65,536 bytes

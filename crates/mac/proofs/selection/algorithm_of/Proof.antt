@@ -1,20 +1,21 @@
--- `bad_algorithm` meets its contract: each place by its law in SelectionTests. Assumes nothing.
+-- `algorithm_of` meets its contract: each place by its law in SelectionTests. Assumes nothing.
 use Rattle.mac.proofs.PlaceValues as places
 use Rattle.mac.proofs.SelectionTests as tests
-use Rattle.mac.specs.Selection.{badAlgorithm}
+use Rattle.mac.specs.Selection.{algorithmOf}
+use borrow.Author.Tests.{not-true, not-false}
 use borrow.Author.Needs.{needs}
-use Rattle.mac.proofs.selection.bad_algorithm.Statement.{statement}
-use Rattle.mac.proofs.selection.bad_algorithm.Tie as tie
+use Rattle.mac.proofs.selection.algorithm_of.Statement.{statement}
+use Rattle.mac.proofs.selection.algorithm_of.Tie as tie
 
 enum-known-p : tie.Need-enum-known-p
 enum-known-p c = search needs
 
 returns : tie.Need-returns
-unfolding badAlgorithm
+unfolding algorithmOf
 returns c = search tests.test-none
 
 returns-2 : tie.Need-returns-2
-unfolding badAlgorithm
+unfolding algorithmOf
 returns-2 c = search tests.test-other
 
 sub-is-sha256 : tie.Need-sub-is-sha256
@@ -30,10 +31,13 @@ is-sha256-requires : tie.Need-is-sha256-requires
 is-sha256-requires c κs = search needs
 
 returns-3 : tie.Need-returns-3
-returns-3 c = search (tests.test-value, tests.not-term)
+returns-3 c = search (tests.test-value, tests.term-unknown, not-true)
 
-pub bad-algorithm-spec : {M : Type 1} → statement M
-bad-algorithm-spec =
+returns-4 : tie.Need-returns-4
+returns-4 c = search (tests.test-value, tests.term-known, not-false)
+
+pub algorithm-of-spec : {M : Type 1} → statement M
+algorithm-of-spec =
     tie.close
     (tie.spec
     enum-known-p
@@ -43,4 +47,5 @@ bad-algorithm-spec =
     part-is-sha256-start
     part-is-sha256-end
     is-sha256-requires
-    returns-3)
+    returns-3
+    returns-4)
