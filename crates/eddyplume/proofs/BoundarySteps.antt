@@ -41,7 +41,14 @@ module _ (c b : Result) (e : b ≡ c) (set out after : List ℕ) (words : List �
         bytes = s .bytes;
       }
 
+-- measuring, which answers c, and in the code b
+pub measured-to : (c b : Answer) → b ≡ c → (a : Answer) → a ≡ b → (words : List ℕ) → words ≡ answerWords a → words ≡ answerWords c
+measured-to c b e a s words q = q ∙ ap answerWords (s ∙ e)
+
 -- in signature mode they differ in the choice of the signature
+pub same-measure : (uid : List ℕ) (w v : Signature) (d : List ℕ) → w ≡ v → mode.measure uid w d ≡ mode.measure uid v d
+same-measure uid w v d e = rw e
+
 pub same-stream-call : (uid : List ℕ) (w v : Signature) (d out : List ℕ) → w ≡ v
     → mode.result (mode.streamCall uid w d out) ≡ mode.result (mode.streamCall uid v d out)
 same-stream-call uid w v d out e = rw e

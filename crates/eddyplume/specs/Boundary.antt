@@ -47,6 +47,14 @@ pub record CheckedTo (c : Result) (set work after answer verdict : List ℕ) : T
   pub output : after ≡ outputAfter c work
   pub bytes : OfBytes set
 
+-- eddyplume_list_measure: what is left in `answer`
+abbrev pub ListMeasured : (list set answer : List ℕ) → Type 0
+ListMeasured list set answer = answer ≡ answerWords (listMode.measure list set)
+
+-- eddyplume_signature_measure
+abbrev pub SignatureMeasured : (uid : List ℕ) (numbered : Bool) (number : ℕ) (set answer : List ℕ) → Type 0
+SignatureMeasured uid numbered number set answer = answer ≡ answerWords (signatureMode.measure uid (whichOf numbered number) set)
+
 -- eddyplume_list_stream
 abbrev pub ListStreamed : (list set out after answer : List ℕ) → Type 0
 ListStreamed list set out after answer = StreamedTo (listMode.result (listMode.streamCall list set out)) set out after answer

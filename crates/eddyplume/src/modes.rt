@@ -2,7 +2,16 @@
 use crate::c_values;
 use mac::list_mode;
 use mac::signature_mode;
-ghost use Rattle.eddyplume.specs.Boundary.{ListStreamed, ListChecked, SignatureStreamed, SignatureChecked};
+ghost use Rattle.eddyplume.specs.Boundary.{ListMeasured, ListStreamed, ListChecked, SignatureMeasured, SignatureStreamed, SignatureChecked};
+
+// The answer of `eddyplume_list_stream` with room enough; nothing else is written.
+#[no_mangle]
+pub extern "C" fn eddyplume_list_measure(list: &[u8], d: &[u8], answer: &mut [u64; 3])
+    ensures { λ _. ⌜ ListMeasured (now (list .entry)) (now (d .entry)) (now (answer .exit)) ⌝ }
+{
+    let a = list_mode::list_measure(list, d);
+    *answer = c_values::answer_words(a);
+}
 
 // The stream of a list, into the output.
 #[no_mangle]
@@ -36,6 +45,22 @@ pub extern "C" fn eddyplume_list_check(
     let v = checked.verdict;
     *answer = c_values::answer_words(a);
     *verdict = [c_values::verdict_code(v)];
+}
+
+// The answer of `eddyplume_signature_stream` with room enough; nothing else is written.
+#[no_mangle]
+pub extern "C" fn eddyplume_signature_measure(
+    uid: &[u8],
+    numbered: bool,
+    number: u64,
+    d: &[u8],
+    answer: &mut [u64; 3],
+)
+    ensures { λ _. ⌜ SignatureMeasured (now (uid .entry)) numbered number (now (d .entry)) (now (answer .exit)) ⌝ }
+{
+    let which = c_values::which_of(numbered, number);
+    let a = signature_mode::signature_measure(uid, which, d);
+    *answer = c_values::answer_words(a);
 }
 
 // The stream of a signature, into the output.
