@@ -15,8 +15,8 @@ use Rattle.digest.specs.declared.running.Fed.{Fed}
 use Rattle.digest.specs.declared.running.Finished.{Finished}
 use Rattle.mac.specs.Result.{Result, verdictCode, Streamed, CheckedAs}
 use Rattle.mac.specs.SignatureMode as mode
-use Rattle.mac.specs.declared.signature_mode.Signature.{Signature}
-use Rattle.mac.specs.declared.signature_mode.Signature.the-variants as signature
+use Rattle.selection.specs.declared.select.Signature.{Signature}
+use Rattle.selection.specs.declared.select.Signature.the-variants as signature
 use Rattle.mac.specs.declared.verdict.Checked.{Checked}
 use Rattle.eddyplume.specs.Boundary.{answerWords, whichOf, flag, StreamedTo, CheckedTo, LookedUp, digestAfter, HashedTo, Holds, FedTo, FinishedTo}
 

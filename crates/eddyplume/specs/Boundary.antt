@@ -21,8 +21,8 @@ use Rattle.digest.specs.declared.running.Finished.{Finished}
 use Rattle.mac.specs.ListMode as listMode
 use Rattle.mac.specs.Result.{Result, outputAfter, verdictOf}
 use Rattle.mac.specs.SignatureMode as signatureMode
-use Rattle.mac.specs.declared.signature_mode.Signature.{Signature}
-use Rattle.mac.specs.declared.signature_mode.Signature.the-variants as signature
+use Rattle.selection.specs.declared.select.Signature.{Signature}
+use Rattle.selection.specs.declared.select.Signature.the-variants as signature
 
 -- uint64_t answer[3]: number, position, length
 abbrev pub answerWords : Answer → List ℕ

@@ -1,7 +1,7 @@
 // The values that C gets: answers, verdicts, yes or no; and the signature that it names.
 use answer::Answer;
-use mac::signature_mode::Signature;
 use mac::verdict::Verdict;
+use selection::select::Signature;
 ghost use mathlib.Core.Path.{_≡_};
 ghost use mathlib.Core.List.{[], _∷_};
 ghost use Rattle.mac.specs.Result.{verdictCode};

@@ -1,7 +1,6 @@
 pub mod From9Answers
 pub mod StreamLength
 pub mod OwnElements
-pub mod SelectionNumbers
 pub mod TagListSteps
 pub mod KeepSteps
 pub mod WrittenSteps
@@ -24,8 +23,3 @@ pub mod From9Steps
 pub mod CheckSteps
 pub mod ListModeSteps
 pub mod SignatureSteps
-pub mod PlaceValues
-pub mod SelectionTests
-pub mod ParametersSteps
-pub mod SelectSteps
-pub mod FindItemSteps

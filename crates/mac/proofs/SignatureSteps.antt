@@ -20,22 +20,22 @@ use Rattle.mac.specs.TagList.{tagsIn, listAnswer}
 use Rattle.mac.specs.Stream.{listedStream, elementsStream}
 use Rattle.mac.specs.Modes.{tagsAnswer}
 use Rattle.mac.specs.Result.{Streamed, CheckedAs}
-use Rattle.mac.specs.Selection.{refusal, selected, select}
-use Rattle.mac.specs.Selection as mode
+use Rattle.selection.specs.Selection.{refusal, selected, select}
+use Rattle.selection.specs.Selection as mode
 use Rattle.mac.specs.SignatureMode.{own, streamBy, selectionAnswer, streamIn, answerTo15, measure, answer, result, streamCall, checkCall}
 use Rattle.dataset.specs.Place.{Lies}
 use Rattle.dataset.specs.Extent.{elementsIn, wholeOf}
 use Rattle.mac.specs.Inner.Own.{ownStream}
-use Rattle.mac.specs.Inner.Selection.{IsSelected, SelectionAs, SelectedIn}
+use Rattle.selection.specs.Selected.{IsSelected, SelectionAs, SelectedIn}
 use Rattle.mac.specs.Inner.Verdict.{CheckOf, lengthOf}
 use Rattle.mac.specs.Inner.Calls.{ItemReads, wholeStream, walkAnswer, measureIn, Measures, AnsweredFrom9, signatureCall, CallAnswered, listIn, SignatureMeasures, SignatureRefused, SignatureMeasured}
 use Rattle.dataset.specs.declared.extent.Extent.{Extent}
 use Rattle.mac.specs.declared.modes.SignatureItem.{SignatureItem}
 use Rattle.mac.specs.declared.modes.SignatureItem.the-variants as signatureItem
-use Rattle.mac.specs.declared.selection.Selected.{Selected}
-use Rattle.mac.specs.declared.selection.Selection.{Selection}
-use Rattle.mac.specs.declared.selection.Selection.the-variants as selection
-use Rattle.mac.specs.declared.signature_mode.Signature.{Signature}
+use Rattle.selection.specs.declared.select.Selected.{Selected}
+use Rattle.selection.specs.declared.select.Selection.{Selection}
+use Rattle.selection.specs.declared.select.Selection.the-variants as selection
+use Rattle.selection.specs.declared.select.Signature.{Signature}
 use Rattle.mac.specs.declared.signature_mode.Measured.{Measured}
 use Rattle.mac.specs.declared.signature_mode.Measured.the-variants as measured
 use Rattle.mac.specs.declared.verdict.Checked.{Checked}
@@ -43,7 +43,7 @@ use Rattle.mac.specs.declared.verdict.ExpectedLength.{ExpectedLength}
 use Rattle.mac.proofs.CallSteps.{measured-refused, measured-on}
 use Rattle.mac.proofs.CheckSteps.{AllFit, call-streamed, call-room, call-checked}
 use Rattle.mac.proofs.MeasureSteps.{measures}
-use Rattle.mac.proofs.SelectionNumbers.{selected-number}
+use Rattle.selection.proofs.SelectionNumbers.{selected-number}
 
 -- ---- what is selected, where the data set is read as p
 pub record Picked (uid : List ℕ) (which : Signature) (d : List ℕ) (p : Reading Elements) (s : Selected) : Type 0 where
@@ -75,11 +75,11 @@ module _ (uid : List ℕ) (which : Signature) (d : List ℕ) (r : Selection) (s 
         parts = rw (parts .listed) at parts;
       }
 
-  pub picked : (p : Reading Elements) → SelectedIn uid which d p r → Picked uid which d p s
+  pub picked : (p : Reading Elements) → SelectedIn uid which d p p r → Picked uid which d p s
   picked (fault f) h = absurd (true≢false (cc))
   picked (read es n) h = picked-by es n (select uid which es d) refl h
 
-  module _ (x : Extent) (h : SelectedIn uid which d (elementsIn d x) r) where
+  module _ (x : Extent) (h : SelectedIn uid which d (elementsIn d x) (elementsIn d x) r) where
     chosen : Picked uid which d (elementsIn d x) s
     chosen = picked (elementsIn d x) h
 
@@ -113,7 +113,7 @@ module _ (uid : List ℕ) (which : Signature) (d : List ℕ) where
   pub signature-over : (a : Answer) → a ≡ sizeAnswer d → (a .number ≡ 0 → ⊥) → SignatureMeasured uid which d (measured.Refused a)
   signature-over a e h = refused-as a a refl h (measure-fault a (size-refused d a e h) h)
 
-  module _ (h : length d ≤ sizeLimit) (x : Extent) (w : x ≡ wholeOf (length d)) (r : Selection) (t : SelectedIn uid which d (elementsIn d x) r) where
+  module _ (h : length d ≤ sizeLimit) (x : Extent) (w : x ≡ wholeOf (length d)) (r : Selection) (t : SelectedIn uid which d (elementsIn d x) (elementsIn d x) r) where
     whole : elementsIn d x ≡ dataSet d
     whole = rw w (sym (data-set-is d h))
 
@@ -127,7 +127,7 @@ module _ (uid : List ℕ) (which : Signature) (d : List ℕ) where
           (sym (measure-by (read es n) q (refusal k) m ∙ ap (λ (a : Answer). a orElse accepted (length (streamBy (refusal k) d))) (or-else-second (accepted 0) _ refl) ∙ or-else-first (refused k 0) _ z))
       by-selection es n q (selected list a signed item) m s = let u = s .1 in absurd (true≢false (cc))
 
-      by-reading : (p : Reading Elements) → dataSet d ≡ p → SelectedIn uid which d p r → SignatureMeasured uid which d (measured.Refused f)
+      by-reading : (p : Reading Elements) → dataSet d ≡ p → SelectedIn uid which d p p r → SignatureMeasured uid which d (measured.Refused f)
       by-reading (fault g) q s =
           let n : g .number ≡ 0 → ⊥ = λ z. omega (arith, faults-inside d g q .least) in
           refused-as f g (cc) n (measure-fault g q n)

@@ -3,6 +3,5 @@ pub mod Keep
 pub mod Writer
 pub mod Listed
 pub mod Own
-pub mod Selection
 pub mod Verdict
 pub mod Calls

@@ -5,7 +5,6 @@ pub mod UN
 pub mod Modes
 pub mod Result
 pub mod ListMode
-pub mod Selection
 pub mod SignatureMode
 -- for inner contracts; a reader need not believe it
 pub mod Inner

@@ -19,8 +19,8 @@ use Rattle.mac.specs.Stream.{elementsStream, listedStream}
 use Rattle.mac.specs.UN.{isUN, holdsUN}
 use Rattle.mac.specs.Modes.{tagsAnswer, answerFrom9}
 use Rattle.mac.specs.Result.{Result}
-use Rattle.mac.specs.Selection.{Selection, refusal, selected, select}
-use Rattle.mac.specs.declared.signature_mode.Signature.{Signature}
+use Rattle.selection.specs.Selection.{Selection, refusal, selected, select}
+use Rattle.selection.specs.declared.select.Signature.{Signature}
 
 -- ---- the signature item's own elements
 

@@ -2,7 +2,6 @@
 //
 // list_mode, signature_mode  the calls
 // modes                      what both share: the list, 9 and 16, the two walks
-// selection                  18 to 23
 // tag_list                   10, 11, 12
 // listed                     13, 14, 15: the merge of list and data set
 // own                        the signature item's own elements
@@ -14,7 +13,6 @@ mod listed;
 mod modes;
 mod output;
 mod own;
-mod selection;
 pub mod signature_mode;
 mod tag_list;
 pub mod verdict;

@@ -1,26 +1,21 @@
 // Signature mode: the stream of a signature in the data set, its measuring, and the check of its digest.
 use crate::modes;
 use crate::modes::SignatureItem;
-use crate::selection;
-use crate::selection::Selected;
-use crate::selection::Selection;
 use crate::verdict;
 use crate::verdict::Checked;
 use crate::verdict::ExpectedLength;
 use answer::Answer;
 use dataset::extent;
 use dataset::reading;
+use selection::select;
+use selection::select::Selected;
+use selection::select::Selection;
+use selection::select::Signature;
 ghost use mathlib.Core.Path.{_≡_};
 ghost use Rattle.mac.specs.Result.{Streamed, CheckedAs};
 ghost use Rattle.digest.specs.Message.{limit};
 ghost use Rattle.mac.specs.SignatureMode.{measure, streamCall, checkCall, result};
 ghost use Rattle.mac.specs.Inner.Calls.{SignatureMeasured, signatureCall, CallAnswered};
-
-// Which signature: none is named, or by its number from 0.
-pub enum Signature {
-    Unnamed,
-    Number(u64),
-}
 
 // What is measured: a refusal; or what is selected, and the answer with the length of its stream.
 enum Measured {
@@ -36,7 +31,8 @@ fn measure_selected(uid: &[u8], which: Signature, d: &[u8]) -> Measured
     if size.number != 0 {
         return Measured::Refused(size);
     }
-    match selection::select(uid, which, d, extent::whole(d.len())) {
+    let whole = extent::whole(d.len());
+    match select::select(uid, which, d, whole, whole) {
         Selection::Refused(answer) => Measured::Refused(answer),
         Selection::Selected(selected) => {
             let start = selected.start;

@@ -7,9 +7,9 @@ use crate::print;
 use answer::Answer;
 use mac::list_mode;
 use mac::signature_mode;
-use mac::signature_mode::Signature;
 use mac::verdict::Checked;
 use mac::verdict::Verdict;
+use selection::select::Signature;
 
 // A call, and which signature it takes.
 pub(crate) enum Call {

@@ -8,7 +8,7 @@ use crate::calls::Call;
 use crate::fields;
 use crate::fields::Number;
 use crate::print;
-use mac::signature_mode::Signature;
+use selection::select::Signature;
 
 // Which signature: none, or a number in decimal.
 enum Which {

@@ -14,10 +14,10 @@ use Rattle.dataset.specs.Tree.{Element, Elements, Items}
 use Rattle.dataset.specs.Lookup.{elementOf}
 use Rattle.dataset.proofs.laws.Bools.{choose}
 use Rattle.mac.specs.Stream.{itemTagBytes, streamOf, elementsStream, itemsStream, foundStream}
-use Rattle.mac.specs.Selection.{valueOf, itemsOf, firstItem, itemWhere, signatureItem, macIdOf, parametersItem, badTransferSyntax, Algorithm, algorithmOf, Selection, refusal, selected, need, parametersSelect, selectIn, select}
+use Rattle.selection.specs.Selection.{valueOf, itemsOf, firstItem, itemWhere, signatureItem, macIdOf, parametersItem, badTransferSyntax, Algorithm, algorithmOf, Selection, refusal, selected, need, parametersSelect, selectIn, select}
 use Rattle.dataset.specs.Tags.{macCalculationTransferSyntaxUid, macAlgorithm, dataElementsSigned, digitalSignaturesSequence}
-use Rattle.mac.specs.declared.signature_mode.Signature.{Signature}
-use Rattle.mac.specs.declared.signature_mode.Signature.the-variants as signature
+use Rattle.selection.specs.declared.select.Signature.{Signature}
+use Rattle.selection.specs.declared.select.Signature.the-variants as signature
 
 -- what holds of every refusal of 18 to 23, and of every list and algorithm with the signature item, holds of what is selected
 module _ (P : Selection → Type 0) (refused : (number : ℕ) → 18 ≤ number → number ≤ 23 → P (refusal number)) where

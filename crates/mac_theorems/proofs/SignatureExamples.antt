@@ -13,7 +13,7 @@ use Rattle.mac.specs.Stream.{streamOf, listedStream}
 use Rattle.mac.specs.UN.{holdsUN}
 use Rattle.mac.specs.Modes.{elementAnswer, tagsAnswer, answerFrom9}
 use Rattle.mac.specs.Result.{outputAfter}
-use Rattle.mac.specs.Selection.{valueOf, firstItem, signatureItem, macIdOf, parametersItem, lessNul, badTransferSyntax, isTerm, algorithmOf, parametersSelect, selectIn}
+use Rattle.selection.specs.Selection.{valueOf, firstItem, signatureItem, macIdOf, parametersItem, lessNul, badTransferSyntax, isTerm, algorithmOf, parametersSelect, selectIn}
 use Rattle.mac.specs.SignatureMode.{named, leftOut, own, streamBy, selectionAnswer, streamIn, answerTo15, answer}
 use Rattle.mac_theorems.specs.SignatureExamples.{examples, SignatureExamplesHold}
 

@@ -20,10 +20,10 @@ use Rattle.dataset.specs.Lookup.{elementOf}
 use Rattle.mac.specs.Stream.{elementsStream}
 use Rattle.mac.specs.Modes.{badDigestLength, answerFrom9}
 use Rattle.mac.specs.ListMode as listMode
-use Rattle.mac.specs.Selection.{Algorithm, signatureItem, selectIn, select, selected}
+use Rattle.selection.specs.Selection.{Algorithm, signatureItem, selectIn, select, selected}
 use Rattle.mac.specs.SignatureMode.{own, streamBy, selectionAnswer, Call, selection, streamIn, stream, answerTo15, answer}
-use Rattle.mac.specs.declared.signature_mode.Signature.{Signature}
-use Rattle.mac.specs.declared.signature_mode.Signature.the-variants as signature
+use Rattle.selection.specs.declared.select.Signature.{Signature}
+use Rattle.selection.specs.declared.select.Signature.the-variants as signature
 use Rattle.mac_theorems.specs.Theorems.{asList, SignatureStream}
 use Rattle.mac_theorems.proofs.Acceptance.{IsRead, read-is, to15-read}
 use Rattle.mac_theorems.proofs.SelectedItem.{select-holds}

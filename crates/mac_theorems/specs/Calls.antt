@@ -9,9 +9,9 @@ use Rattle.answer.specs.declared.Answer.{Answer}
 use Rattle.slices.specs.Lists.{OfBytes}
 use Rattle.mac.specs.Result.{Result, neither, verdictCode, verdictOf, outputAfter, Streamed, CheckedAs}
 use Rattle.mac.specs.ListMode as listMode
-use Rattle.mac.specs.Selection.{Selection, refusal, selected}
+use Rattle.selection.specs.Selection.{Selection, refusal, selected}
 use Rattle.mac.specs.SignatureMode as signatureMode
-use Rattle.mac.specs.declared.signature_mode.Signature.{Signature}
+use Rattle.selection.specs.declared.select.Signature.{Signature}
 use Rattle.mac.specs.declared.verdict.Checked.{Checked}
 
 pub data EitherCall : Type 0 where

@@ -21,7 +21,7 @@ use Rattle.mac.specs.TagList.{tagsIn, listAnswer}
 use Rattle.mac.specs.Content.{SignedElement, SignedElements, SignedItems, signedElements, content}
 use Rattle.mac.specs.Modes.{tagsAnswer, badDigestLength}
 use Rattle.mac.specs.ListMode as listMode
-use Rattle.mac.specs.Selection.{Selection, refusal, selected}
+use Rattle.selection.specs.Selection.{Selection, refusal, selected}
 use Rattle.mac.specs.SignatureMode.{own, streamBy}
 use Rattle.mac.specs.SignatureMode as signatureMode
 use Rattle.mac_theorems.specs.Calls.{EitherCall, inListMode, inSignatureMode, resultOf}

@@ -9,8 +9,8 @@ use Rattle.answer.specs.declared.Answer.{Answer}
 use Rattle.answer.specs.Answer.{accepted, refused}
 use Rattle.mac.specs.Result.{outputAfter}
 use Rattle.mac.specs.SignatureMode.{streamCall, answer, result}
-use Rattle.mac.specs.declared.signature_mode.Signature.{Signature}
-use Rattle.mac.specs.declared.signature_mode.Signature.the-variants as signature
+use Rattle.selection.specs.declared.select.Signature.{Signature}
+use Rattle.selection.specs.declared.select.Signature.the-variants as signature
 use Rattle.mac_theorems.specs.Examples.{untouched, A, modality, SQreserved, OBreserved, fourByteLength, item, sequenceDelimitationItem}
 
 pub record SignatureExample : Type 0 where

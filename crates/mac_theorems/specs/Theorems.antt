@@ -20,10 +20,10 @@ use Rattle.mac.specs.TagList.{tagsIn, listAnswer}
 use Rattle.mac.specs.Stream.{elementsStream}
 use Rattle.mac.specs.Result.{Result, isAccepted, outputAfter, neither, same, differs, verdictOf}
 use Rattle.mac.specs.ListMode as listMode
-use Rattle.mac.specs.Selection.{Algorithm, selected}
+use Rattle.selection.specs.Selection.{Algorithm, selected}
 use Rattle.mac.specs.SignatureMode.{own}
 use Rattle.mac.specs.SignatureMode as signatureMode
-use Rattle.mac.specs.declared.signature_mode.Signature.{Signature}
+use Rattle.selection.specs.declared.select.Signature.{Signature}
 use Rattle.mac_theorems.specs.Calls.{EitherCall, inListMode, inSignatureMode, setOf, listOf, roomOf, resultOf}
 use Rattle.mac_theorems.specs.Removed17.{Without17}
 

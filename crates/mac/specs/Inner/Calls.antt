@@ -23,8 +23,8 @@ use Rattle.mac.specs.Inner.Verdict.{lengthOf}
 use Rattle.dataset.specs.declared.extent.Extent.{Extent}
 use Rattle.mac.specs.declared.modes.SignatureItem.{SignatureItem}
 use Rattle.mac.specs.declared.modes.SignatureItem.the-variants as signatureItem
-use Rattle.mac.specs.declared.selection.Selected.{Selected}
-use Rattle.mac.specs.declared.signature_mode.Signature.{Signature}
+use Rattle.selection.specs.declared.select.Selected.{Selected}
+use Rattle.selection.specs.declared.select.Signature.{Signature}
 use Rattle.mac.specs.declared.signature_mode.Measured.{Measured}
 use Rattle.mac.specs.declared.signature_mode.Measured.the-variants as measured
 use Rattle.mac.specs.declared.verdict.ExpectedLength.{ExpectedLength}

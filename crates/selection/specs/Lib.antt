@@ -1,0 +1,4 @@
+pub mod Selection
+pub mod Selected
+-- for inner contracts; a reader need not believe it
+pub mod Inner

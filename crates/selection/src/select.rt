@@ -1,0 +1,123 @@
+// The caller's choice of a signature, and what is selected: 18 to 23.
+use crate::items;
+use crate::items::FoundItem;
+use crate::items::ItemKey;
+use crate::parameters;
+use answer::Answer;
+use dataset::extent::Extent;
+use dataset::seek;
+use dataset::seek::Place;
+use dataset::seek::Sought;
+use dataset::tags;
+ghost use mathlib.Core.Path.{_≡_};
+ghost use Rattle.answer.specs.Answer as Spec;
+ghost use Rattle.dataset.specs.Extent.{elementsIn};
+ghost use Rattle.dataset.specs.Place.{Lies};
+ghost use Rattle.dataset.specs.Inner.Place.{Located};
+ghost use Rattle.selection.specs.Selected.{SelectedIn};
+ghost use Rattle.selection.specs.Inner.Selection.{keyOf, SelectOf};
+ghost use Rattle.selection.specs.declared.select.Selection.the-variants as selection;
+
+// Which signature: none is named, or by its number from 0.
+pub enum Signature {
+    Unnamed,
+    Number(u64),
+}
+
+// The algorithms that a signature may name.
+pub enum Algorithm {
+    Sha256,
+}
+
+// What is selected: the list, the bytes of the data set from start to end; the algorithm; the data set that is signed, and that of the
+// signature item.
+pub struct Selected {
+    pub start: usize,
+    pub end: usize,
+    pub algorithm: Algorithm,
+    pub signed: Extent,
+    pub item: Extent,
+}
+
+// A refusal, or what is selected.
+pub enum Selection {
+    Refused(Answer),
+    Selected(Selected),
+}
+
+// A refusal of the selection.
+pub(crate) fn refused(number: u8) -> Selection
+    ensures { λ r. ⌜ r ≡ selection.Refused (Spec.refused number 0) ⌝ }
+{
+    Selection::Refused(Answer::refused(number, 0))
+}
+
+// By what the signature item is found; where no number is given, 0 is taken.
+fn key_of(which: Signature) -> ItemKey
+    ensures { λ r. ⌜ r ≡ keyOf which ⌝ }
+{
+    match which {
+        Signature::Unnamed => ItemKey::Number(0),
+        Signature::Number(number) => ItemKey::Number(number),
+    }
+}
+
+// 18 to 23, in the data set x, by what stands under the tags of the two sequences.
+fn select_from(
+    uid: &[u8],
+    which: Signature,
+    d: &[u8],
+    x: Extent,
+    parameters: Place,
+    signatures: Place,
+) -> Selection
+    requires { ⌜ Lies (now d) x × Located (now d) parameters × Located (now d) signatures ⌝ }
+    ensures { λ r. ⌜ SelectOf (now (uid .entry)) which (now (d .entry)) x parameters signatures r ⌝ }
+{
+    let key = key_of(which);
+    let signature = items::find_item_under(d, signatures, key);
+    let FoundItem::Item {
+        inside: item,
+        id,
+        list: _,
+    } = signature
+    else {
+        return refused(18);
+    };
+    let Place::Value { vr, start, end } = id else {
+        return refused(19);
+    };
+    if !items::is_mac_id(vr, start, end) {
+        return refused(19);
+    }
+    let found = items::find_item_under(d, parameters, ItemKey::MacId { start, end });
+    let FoundItem::Item {
+        inside,
+        id: _,
+        list,
+    } = found
+    else {
+        return refused(20);
+    };
+    parameters::list_of(uid, d, x, item, inside, list)
+}
+
+// What is selected in the data set x of an instance, which is `whole`: the first fault of x, 18 to 23, or the list, the algorithm, the data set
+// and the signature item.
+pub fn select(uid: &[u8], which: Signature, d: &[u8], whole: Extent, x: Extent) -> Selection
+    ensures { λ r. ⌜ SelectedIn (now (uid .entry)) which (now (d .entry)) (elementsIn (now (d .entry)) whole) (elementsIn (now (d .entry)) x) r ⌝ }
+{
+    match seek::seek(
+        d,
+        x,
+        tags::MAC_PARAMETERS_SEQUENCE,
+        tags::DIGITAL_SIGNATURES_SEQUENCE,
+    ) {
+        Sought::Refused(fault) => Selection::Refused(fault),
+        Sought::Past {
+            first: parameters,
+            second: signatures,
+            next: _,
+        } => select_from(uid, which, d, x, parameters, signatures),
+    }
+}
