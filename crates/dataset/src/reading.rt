@@ -13,7 +13,7 @@ ghost use Rattle.dataset.specs.Reading as spec;
 ghost use Rattle.dataset.specs.Inner.Outcomes.{outcomeOf, PastDelimiter, holdingOf};
 
 // How many bytes a data set may have.
-pub const SIZE_LIMIT: usize = 1048576;
+const SIZE_LIMIT: usize = 1048576;
 
 // How many levels of sequences may follow at the top.
 pub const LEVELS: u32 = 16;

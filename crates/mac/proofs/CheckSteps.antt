@@ -68,10 +68,11 @@ pub call-streamed : (call : Option (List ℕ) → Result) (d out after : List �
     → Streamed (call Opt.none) d out a after
 call-streamed call d out after a s b = let t = s .streamed Opt.none refl in record { answers = t .answers; output = t .output; bytes = λ i. b i .fits }
 
-module _ (call : Option (List ℕ) → Result) (d expected work after : List ℕ) (a : Answer) (s : CallAnswered call (lengthOf (some expected)) limit work a after) where
-  pub call-room : length after ≡ length work → a .number ≡ 0 → a .length ≤ length after
-  call-room k h = omega (arith, s .room h)
+pub call-room : (call : Option (List ℕ) → Result) (given : ExpectedLength) (work after : List ℕ) (a : Answer) → CallAnswered call given limit work a after
+    → length after ≡ length work → a .number ≡ 0 → a .length ≤ length after
+call-room call given work after a s k h = omega (arith, s .room h)
 
+module _ (call : Option (List ℕ) → Result) (d expected work after : List ℕ) (a : Answer) (s : CallAnswered call (lengthOf (some expected)) limit work a after) where
   -- what is digested is the stream
   digested : a .number ≡ 0 → take (a .length) after ≡ call (some expected) .stream
   unfolding outputAfter if_then_else_

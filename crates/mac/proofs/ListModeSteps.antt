@@ -30,7 +30,7 @@ use Rattle.mac.specs.declared.modes.SignatureItem.the-variants as signat
 use Rattle.mac.specs.declared.verdict.Checked.{Checked}
 use Rattle.mac.specs.declared.verdict.ExpectedLength.{ExpectedLength}
 use Rattle.mac.proofs.CallSteps.{whole-lies, measured-refused, measured-on}
-use Rattle.mac.proofs.CheckSteps.{AllFit, call-streamed, call-room, call-checked}
+use Rattle.mac.proofs.CheckSteps.{AllFit, call-streamed, call-checked}
 use Rattle.mac.proofs.MeasureSteps.{measures}
 
 module _ (l d : List ℕ) where
@@ -95,9 +95,6 @@ pub list-streamed : (l d out after : List ℕ) (a : Answer) → CallAnswered (li
     → Streamed (result (streamCall l d out)) d out a after
 list-streamed l d out after a = call-streamed (listCall l d out) d out after a
 
-module _ (l d expected work after : List ℕ) (a : Answer) (s : CallAnswered (listCall l d work) (lengthOf (some expected)) limit work a after) where
-  pub list-room : length after ≡ length work → a .number ≡ 0 → a .length ≤ length after
-  list-room = call-room (listCall l d work) d expected work after a s
-
-  pub list-checked : (r : Checked) → CheckOf a expected after r → AllFit d → CheckedAs (result (checkCall l d expected work)) d work r after
-  list-checked r = call-checked (listCall l d work) d expected work after a s r refl
+pub list-checked : (l d expected work after : List ℕ) (a : Answer) → CallAnswered (listCall l d work) (lengthOf (some expected)) limit work a after
+    → (r : Checked) → CheckOf a expected after r → AllFit d → CheckedAs (result (checkCall l d expected work)) d work r after
+list-checked l d expected work after a s r = call-checked (listCall l d work) d expected work after a s r refl

@@ -41,7 +41,7 @@ use Rattle.mac.specs.declared.signature_mode.Measured.the-variants as me
 use Rattle.mac.specs.declared.verdict.Checked.{Checked}
 use Rattle.mac.specs.declared.verdict.ExpectedLength.{ExpectedLength}
 use Rattle.mac.proofs.CallSteps.{measured-refused, measured-on}
-use Rattle.mac.proofs.CheckSteps.{AllFit, call-streamed, call-room, call-checked}
+use Rattle.mac.proofs.CheckSteps.{AllFit, call-streamed, call-checked}
 use Rattle.mac.proofs.MeasureSteps.{measures}
 use Rattle.selection.proofs.SelectionNumbers.{selected-number}
 
@@ -229,10 +229,6 @@ pub signature-streamed : (uid : List ℕ) (which : Signature) (d out after : Lis
     → AllFit d → Streamed (result (streamCall uid which d out)) d out a after
 signature-streamed uid which d out after a = call-streamed (signatureCall uid which d out) d out after a
 
-module _ (uid : List ℕ) (which : Signature) (d expected work after : List ℕ) (a : Answer)
-    (s : CallAnswered (signatureCall uid which d work) (lengthOf (some expected)) limit work a after) where
-  pub signature-room : length after ≡ length work → a .number ≡ 0 → a .length ≤ length after
-  signature-room = call-room (signatureCall uid which d work) d expected work after a s
-
-  pub signature-checked : (r : Checked) → CheckOf a expected after r → AllFit d → CheckedAs (result (checkCall uid which d expected work)) d work r after
-  signature-checked r = call-checked (signatureCall uid which d work) d expected work after a s r refl
+pub signature-checked : (uid : List ℕ) (which : Signature) (d expected work after : List ℕ) (a : Answer) → CallAnswered (signatureCall uid which d work) (lengthOf (some expected)) limit work a after
+    → (r : Checked) → CheckOf a expected after r → AllFit d → CheckedAs (result (checkCall uid which d expected work)) d work r after
+signature-checked uid which d expected work after a s r = call-checked (signatureCall uid which d work) d expected work after a s r refl

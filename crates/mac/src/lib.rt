@@ -1,7 +1,7 @@
 // The MAC stream of DICOM C.12.1.1.3.
 //
 // list_mode, signature_mode  the calls
-// modes                      what both share: the list, 9 and 16, the two walks
+// modes                      what both share: measuring, which is the list and a first walk; then 9, 16 and the walk that writes
 // tag_list                   10, 11, 12
 // listed                     13, 14, 15: the merge of list and data set
 // own                        the signature item's own elements

@@ -142,8 +142,8 @@ parametersSelect uid d es item parameters =
     need 23 (valueOf AT (elementOf dataElementsSigned parameters) d) λ list.
     selected list algorithm es item
 
--- "18 to 23" (9.5), in a data set whose elements are es, of an instance whose elements are `whole`. No number is about `whole`: in every
--- call the two are the same data set.
+-- "18 to 23" (9.5), in a data set whose elements are es, of an instance whose elements are `whole`. In every call the two are the same data
+-- set (`select`), and nothing here reads `whole`.
 unfoldable pub selectIn : (uid : List ℕ) → Signature → (whole : Elements) (d : List ℕ) (es : Elements) → Selection
 selectIn uid which whole d es =
     need 18 (signatureItem which es) λ item.

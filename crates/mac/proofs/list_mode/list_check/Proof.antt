@@ -1,4 +1,5 @@
 -- `list_check` meets its contract. Assumes nothing.
+use Rattle.mac.proofs.CheckSteps as into
 use Rattle.mac.proofs.ListModeSteps as steps
 use borrow.Author.Needs.{needs}
 use Rattle.mac.proofs.list_mode.list_check.Statement.{statement}
@@ -8,7 +9,7 @@ list-call-requires : tie.Need-list-call-requires
 list-call-requires c κs = search needs
 
 check-of-requires : tie.Need-check-of-requires
-check-of-requires c κs = search (steps.list-room, needs)
+check-of-requires c κs = search (into.call-room, needs)
 
 same-length : tie.Need-same-length
 same-length c = search needs

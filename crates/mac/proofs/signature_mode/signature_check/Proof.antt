@@ -1,4 +1,5 @@
 -- `signature_check` meets its contract. Assumes nothing.
+use Rattle.mac.proofs.CheckSteps as into
 use Rattle.mac.proofs.SignatureSteps as steps
 use borrow.Author.Needs.{needs}
 use Rattle.mac.proofs.signature_mode.signature_check.Statement.{statement}
@@ -8,7 +9,7 @@ signature-call-requires : tie.Need-signature-call-requires
 signature-call-requires c κs = search needs
 
 check-of-requires : tie.Need-check-of-requires
-check-of-requires c κs = search (steps.signature-room, needs)
+check-of-requires c κs = search (into.call-room, needs)
 
 same-length : tie.Need-same-length
 same-length c = search needs
