@@ -2,7 +2,7 @@
 -- struct of src/extent.rt: from `from` up to `stop`, or to a delimiter before it (`delimited`); `left` levels of sequences may follow.
 -- Assumes nothing.
 use Prim.Native.Nat.{ℕ}
-use mathlib.Core.Bool.{Bool, true, false}
+use mathlib.Core.Bool.{true, false}
 use mathlib.Core.List.{List}
 use Rattle.answer.specs.declared.Answer.{Answer}
 use Rattle.dataset.specs.Header.{ItemHeader, itemAt}

@@ -1,2 +1,2 @@
-pub mod BoundarySteps
+pub mod laws
 pub mod Theorems

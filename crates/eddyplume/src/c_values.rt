@@ -3,7 +3,6 @@ use answer::Answer;
 use mac::verdict::Verdict;
 use selection::select::Signature;
 ghost use mathlib.Core.Path.{_≡_};
-ghost use mathlib.Core.List.{[], _∷_};
 ghost use Rattle.mac.specs.Result.{verdictCode};
 ghost use Rattle.eddyplume.specs.Boundary.{answerWords, whichOf, flag};
 

@@ -27,14 +27,14 @@ use Rattle.mac.specs.ListMode.{Call, contentOf, streamIn, stream, answerTo15, a
 use Rattle.mac.specs.SignatureMode as mode
 use Rattle.mac_theorems.specs.Calls.{inListMode, Run, PromisedRuns}
 use Rattle.mac_theorems.specs.Demand3.{signedInFragments, listedHoldUN, on, written, FirstHalf, HasSignedContent, SecondHalf, AcceptedHasContent, Demand3}
-use Rattle.mac_theorems.proofs.Encoding.{encodeElements}
-use Rattle.mac_theorems.proofs.Injective.{ElementsFit, injective}
-use Rattle.mac_theorems.proofs.Fitting.{WithinSize}
-use Rattle.mac_theorems.proofs.ListedElements.{HasContent, has-content}
-use Rattle.mac_theorems.proofs.ListedContent.{listed-encoded, content-fits, same-tags, none-hold}
-use Rattle.mac_theorems.proofs.Answers.{answer-regular}
-use Rattle.mac_theorems.proofs.Outputs.{output-stream}
-use Rattle.mac_theorems.proofs.Acceptance.{Accepted, IsRead, is-read, Accepts, accepts, to15-read, answer-accepted}
+use Rattle.mac_theorems.proofs.laws.demand3.Encoding.{encodeElements}
+use Rattle.mac_theorems.proofs.laws.demand3.Injective.{ElementsFit, injective}
+use Rattle.mac_theorems.proofs.laws.demand3.Fitting.{WithinSize}
+use Rattle.mac_theorems.proofs.laws.answers.ListedElements.{HasContent, has-content}
+use Rattle.mac_theorems.proofs.laws.demand3.ListedContent.{listed-encoded, content-fits, same-tags, none-hold}
+use Rattle.mac_theorems.proofs.laws.answers.EveryAnswer.{answer-regular}
+use Rattle.mac_theorems.proofs.laws.answers.Outputs.{output-stream}
+use Rattle.mac_theorems.proofs.laws.answers.Acceptance.{Accepted, IsRead, is-read, Accepts, accepts, to15-read, answer-accepted}
 
 -- ---- the stream of a call is the encoding of its signed content
 module _ (c : Call) (b : OfBytes (c .set)) (r : IsRead (c .set)) (row : SignedElements) (is : contentOf c ≡ some row) where

@@ -7,11 +7,9 @@ use mathlib.Core.List.{List, [], _∷_}
 use mathlib.Core.Option.{Option, some}
 use mathlib.Core.Option as Opt
 use native.Mathlib.Omega.{arith}
-use lib.Dec.{ltb}
-use lib.ListN.{length}
 use Rattle.slices.specs.If.{if_then_else_}
 use Rattle.answer.specs.declared.Answer.{Answer}
-use Rattle.answer.specs.Answer.{accepted, refused, _orElse_}
+use Rattle.answer.specs.Answer.{refused, _orElse_}
 use Rattle.answer.proofs.laws.Chain.{or-else-first, or-else-same, or-else-assoc}
 use Rattle.dataset.specs.Tree.{Element, Elements, Items, tagOf}
 use Rattle.dataset.specs.Reading.{sizeAnswer, dataSet, answerOf, tree}
@@ -23,11 +21,11 @@ use Rattle.mac.specs.Modes.{tagsAnswer, answerFrom9}
 use Rattle.mac.specs.ListMode as listMode
 use Rattle.mac.specs.SignatureMode.{leftOut, own, streamBy, selectionAnswer}
 use Rattle.mac.specs.SignatureMode as signatureMode
-use Rattle.mac.proofs.OwnElements.{own-element}
+use Rattle.mac.proofs.laws.own.OwnElements.{own-element}
 use Rattle.mac_theorems.specs.Calls.{EitherCall, inListMode, inSignatureMode, resultOf}
 use Rattle.mac_theorems.specs.Removed17.{writesUN, elementsWriteUN, itemsWriteUN, sequencesWriteUN, contentWritesUN, signatureWritesUN, answerFrom13With17, listModeWith17, answerByWith17, signatureModeWith17, answerWith17}
-use Rattle.mac_theorems.proofs.ListedElements.{tags-unrefused}
-use Rattle.mac_theorems.proofs.SelectedItem.{select-holds}
+use Rattle.mac_theorems.proofs.laws.answers.ListedElements.{tags-unrefused}
+use Rattle.mac_theorems.proofs.laws.signature.SelectedItem.{select-holds}
 
 -- ---- UN in the tree and UN in the signed content: a sequence that holds none writes none
 both-false : {a b : Bool} → a ≡ false → b ≡ false → a || b ≡ false

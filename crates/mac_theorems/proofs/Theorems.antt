@@ -11,14 +11,14 @@ use Rattle.mac.specs.Result.{isAccepted}
 use Rattle.mac_theorems.specs.Calls.{EitherCall, inListMode, inSignatureMode, roomOf, resultOf}
 use Rattle.mac_theorems.specs.Removed17.{Without17}
 use Rattle.mac_theorems.specs.Theorems.{Numbers, Positions, AcceptedOutput, RefusedOutput, VerdictExact, EnoughRoom, Theorems}
-use Rattle.mac_theorems.proofs.Answers.{Regular, answer-regular}
-use Rattle.mac_theorems.proofs.Acceptance.{answer-accepted, answer-fits}
-use Rattle.mac_theorems.proofs.SignatureAcceptance as signed
-use Rattle.mac_theorems.proofs.Outputs.{output-stream, output-rest, output-room, output-refused}
-use Rattle.mac_theorems.proofs.Verdicts.{says}
-use Rattle.mac_theorems.proofs.SignatureStream.{signature-stream}
-use Rattle.mac_theorems.proofs.CheckAnswers.{checks-as-stream, measures-as-stream}
-use Rattle.mac_theorems.proofs.SignatureStreamLength.{never-longer}
+use Rattle.mac_theorems.proofs.laws.answers.EveryAnswer.{Regular, answer-regular}
+use Rattle.mac_theorems.proofs.laws.answers.Acceptance.{answer-accepted, answer-fits}
+use Rattle.mac_theorems.proofs.laws.answers.SignatureAcceptance as signed
+use Rattle.mac_theorems.proofs.laws.answers.Outputs.{output-stream, output-rest, output-room, output-refused}
+use Rattle.mac_theorems.proofs.laws.answers.Verdicts.{says}
+use Rattle.mac_theorems.proofs.laws.signature.SignatureStream.{signature-stream}
+use Rattle.mac_theorems.proofs.laws.answers.CheckAnswers.{checks-as-stream, measures-as-stream}
+use Rattle.mac_theorems.proofs.laws.length.SignatureStreamLength.{never-longer}
 use Rattle.mac_theorems.proofs.Removed17.{answers-same}
 
 -- ---- a call in either mode

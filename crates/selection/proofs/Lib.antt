@@ -1,6 +1,1 @@
-pub mod PlaceValues
-pub mod SelectionTests
-pub mod ParametersSteps
-pub mod FindItemSteps
-pub mod SelectSteps
-pub mod SelectionNumbers
+pub mod laws

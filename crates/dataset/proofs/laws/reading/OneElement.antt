@@ -7,7 +7,6 @@ use mathlib.Core.List.{List}
 use native.Mathlib.Omega.{arith}
 use lib.ListN.{length}
 use Rattle.answer.specs.declared.Answer.{Answer}
-use Rattle.answer.specs.Answer.{refused}
 use Rattle.slices.specs.If.{if_then_else_}
 use Rattle.dataset.specs.Vr.{OB, SQ}
 use Rattle.dataset.specs.Header.{elementCase, elementAt}

@@ -9,7 +9,7 @@ use native.Mathlib.Omega.{arith}
 use borrow.Author.Tests.{eq-eqb, le-leb}
 use lib.Dec.{eqb, leb}
 use lib.ListN.{length, drop, replicate, length-append}
-use lib.Seq.{take-append-seam, drop-append-seam, length-take-le}
+use lib.Seq.{take-append-seam, drop-append-seam}
 use Rattle.digest.specs.Padding.{wordBytes, padding}
 use Rattle.digest.specs.Message.{Algorithm, afterBlocks, rest, digestOf, limit}
 use Rattle.digest.specs.Running.{waitingBytes, possible, accepts, zeroFilled, start, fed, finished}

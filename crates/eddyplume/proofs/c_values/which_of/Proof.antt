@@ -1,5 +1,5 @@
 -- `which_of` meets its contract. Assumes nothing.
-use Rattle.eddyplume.proofs.BoundarySteps as steps
+use Rattle.eddyplume.proofs.laws.Boundary as steps
 use Rattle.eddyplume.proofs.c_values.which_of.Statement.{statement}
 use Rattle.eddyplume.proofs.c_values.which_of.Tie as tie
 

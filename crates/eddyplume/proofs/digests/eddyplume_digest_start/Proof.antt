@@ -1,5 +1,5 @@
 -- `eddyplume_digest_start` meets its contract. Assumes nothing.
-use Rattle.eddyplume.proofs.BoundarySteps as steps
+use Rattle.eddyplume.proofs.laws.Boundary as steps
 use borrow.Author.Needs.{needs}
 use Rattle.eddyplume.proofs.digests.eddyplume_digest_start.Statement.{statement}
 use Rattle.eddyplume.proofs.digests.eddyplume_digest_start.Tie as tie

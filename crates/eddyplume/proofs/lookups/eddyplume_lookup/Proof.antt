@@ -1,5 +1,5 @@
 -- `eddyplume_lookup` meets its contract. Assumes nothing.
-use Rattle.eddyplume.proofs.BoundarySteps as steps
+use Rattle.eddyplume.proofs.laws.Boundary as steps
 use borrow.Author.Needs.{needs}
 use Rattle.eddyplume.proofs.lookups.eddyplume_lookup.Statement.{statement}
 use Rattle.eddyplume.proofs.lookups.eddyplume_lookup.Tie as tie

@@ -1,5 +1,5 @@
 -- `is_kept` meets its contract. Assumes nothing.
-use Rattle.mac.proofs.KeepSteps as steps
+use Rattle.mac.proofs.laws.keep.Kept as steps
 use borrow.Author.Needs.{needs}
 use Rattle.mac.proofs.keep.is_kept.Statement.{statement}
 use Rattle.mac.proofs.keep.is_kept.Tie as tie

@@ -1,5 +1,5 @@
 -- `keeps_header` meets its contract. Assumes nothing.
-use Rattle.mac.proofs.KeepSteps as steps
+use Rattle.mac.proofs.laws.keep.Kept as steps
 use borrow.Author.Needs.{needs}
 use Rattle.mac.proofs.keep.keeps_header.Statement.{statement}
 use Rattle.mac.proofs.keep.keeps_header.Tie as tie

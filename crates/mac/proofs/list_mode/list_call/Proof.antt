@@ -1,5 +1,5 @@
--- `list_call` meets its contract: each place by its law in ListModeSteps. Assumes nothing.
-use Rattle.mac.proofs.ListModeSteps as steps
+-- `list_call` meets its contract: each place by its law in ListMode. Assumes nothing.
+use Rattle.mac.proofs.laws.list_mode.ListMode as steps
 use borrow.Author.Needs.{needs}
 use Rattle.mac.proofs.list_mode.list_call.Statement.{statement}
 use Rattle.mac.proofs.list_mode.list_call.Tie as tie

@@ -1,6 +1,6 @@
 -- `list_check` meets its contract. Assumes nothing.
-use Rattle.mac.proofs.CheckSteps as into
-use Rattle.mac.proofs.ListModeSteps as steps
+use Rattle.mac.proofs.laws.verdict.Checks as into
+use Rattle.mac.proofs.laws.list_mode.ListMode as steps
 use borrow.Author.Needs.{needs}
 use Rattle.mac.proofs.list_mode.list_check.Statement.{statement}
 use Rattle.mac.proofs.list_mode.list_check.Tie as tie

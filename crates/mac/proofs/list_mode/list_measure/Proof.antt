@@ -1,6 +1,6 @@
--- `list_measure` meets its contract: each place by its law in ListModeSteps. Assumes nothing.
-use Rattle.mac.proofs.CallSteps as into
-use Rattle.mac.proofs.ListModeSteps as steps
+-- `list_measure` meets its contract: each place by its law in ListMode. Assumes nothing.
+use Rattle.mac.proofs.laws.modes.EitherCall as into
+use Rattle.mac.proofs.laws.list_mode.ListMode as steps
 use Rattle.dataset.proofs.laws.reading.Loops.{size-passed}
 use borrow.Author.Needs.{needs}
 use Rattle.mac.proofs.list_mode.list_measure.Statement.{statement}

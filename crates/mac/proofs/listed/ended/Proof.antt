@@ -1,5 +1,5 @@
--- `ended` meets its contract: each place by its law in ListedSteps. Assumes nothing.
-use Rattle.mac.proofs.ListedSteps as steps
+-- `ended` meets its contract: each place by its law in MergeArms. Assumes nothing.
+use Rattle.mac.proofs.laws.listed.MergeArms as steps
 use borrow.Author.Needs.{needs}
 use Rattle.mac.proofs.listed.ended.Statement.{statement}
 use Rattle.mac.proofs.listed.ended.Tie as tie

@@ -1,5 +1,5 @@
--- `merged` meets its contract: each place by its law in ListedSteps. Assumes nothing.
-use Rattle.mac.proofs.ListedSteps as steps
+-- `merged` meets its contract: each place by its law in MergeArms. Assumes nothing.
+use Rattle.mac.proofs.laws.listed.MergeArms as steps
 use borrow.Author.Needs.{needs}
 use Rattle.mac.proofs.listed.merged.Statement.{statement}
 use Rattle.mac.proofs.listed.merged.Tie as tie

@@ -1,6 +1,6 @@
--- `next_listed` meets its contract: each place by its law in ListedSteps, TagListSteps. Assumes nothing.
-use Rattle.mac.proofs.ListedSteps as steps
-use Rattle.mac.proofs.TagListSteps as tags
+-- `next_listed` meets its contract: each place by its law in MergeArms, TagChecks. Assumes nothing.
+use Rattle.mac.proofs.laws.listed.MergeArms as steps
+use Rattle.mac.proofs.laws.tag_list.TagChecks as tags
 use borrow.Author.Needs.{needs}
 use Rattle.mac.proofs.listed.next_listed.Statement.{statement}
 use Rattle.mac.proofs.listed.next_listed.Tie as tie

@@ -1,5 +1,5 @@
--- `stopped` meets its contract: each place by its law in ListedSteps. Assumes nothing.
-use Rattle.mac.proofs.ListedSteps as steps
+-- `stopped` meets its contract: each place by its law in MergeArms. Assumes nothing.
+use Rattle.mac.proofs.laws.listed.MergeArms as steps
 use borrow.Author.Needs.{needs}
 use Rattle.mac.proofs.listed.stopped.Statement.{statement}
 use Rattle.mac.proofs.listed.stopped.Tie as tie

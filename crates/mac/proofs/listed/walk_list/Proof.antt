@@ -1,5 +1,5 @@
--- `walk_list` meets its contract: each place by its law in ListSteps. Assumes nothing.
-use Rattle.mac.proofs.ListSteps as steps
+-- `walk_list` meets its contract: each place by its law in WalkListLoop. Assumes nothing.
+use Rattle.mac.proofs.laws.listed.WalkListLoop as steps
 use borrow.Author.Needs.{needs}
 use Prim.Native.Nat.{_-_}
 use Rattle.mac.proofs.listed.walk_list.Statement.{statement}

@@ -1,5 +1,5 @@
--- `answer_from_9` meets its contract: each place by its law in From9Steps. Assumes nothing.
-use Rattle.mac.proofs.From9Steps as steps
+-- `answer_from_9` meets its contract: each place by its law in WritingFrom9. Assumes nothing.
+use Rattle.mac.proofs.laws.modes.WritingFrom9 as steps
 use borrow.Author.Needs.{needs}
 use Rattle.mac.proofs.modes.answer_from_9.Statement.{statement}
 use Rattle.mac.proofs.modes.answer_from_9.Tie as tie

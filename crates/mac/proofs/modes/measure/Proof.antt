@@ -1,6 +1,6 @@
--- `measure` meets its contract: each place by its law in MeasureSteps. Assumes nothing.
-use Rattle.mac.proofs.CallSteps as into
-use Rattle.mac.proofs.MeasureSteps as steps
+-- `measure` meets its contract: each place by its law in Measuring. Assumes nothing.
+use Rattle.mac.proofs.laws.modes.EitherCall as into
+use Rattle.mac.proofs.laws.modes.Measuring as steps
 use borrow.Author.Needs.{needs}
 use Rattle.mac.proofs.modes.measure.Statement.{statement}
 use Rattle.mac.proofs.modes.measure.Tie as tie

@@ -1,5 +1,5 @@
--- `write_stream` meets its contract: each place by its law in StreamWalkSteps. Assumes nothing.
-use Rattle.mac.proofs.StreamWalkSteps as steps
+-- `write_stream` meets its contract: each place by its law in StreamWalk. Assumes nothing.
+use Rattle.mac.proofs.laws.modes.StreamWalk as steps
 use borrow.Author.Needs.{needs}
 use Rattle.mac.proofs.modes.write_stream.Statement.{statement}
 use Rattle.mac.proofs.modes.write_stream.Tie as tie

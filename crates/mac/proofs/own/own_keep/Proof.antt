@@ -1,5 +1,5 @@
--- `own_keep` meets its contract: each arm by its law in OwnSteps. Assumes nothing.
-use Rattle.mac.proofs.OwnSteps as steps
+-- `own_keep` meets its contract: each arm by its law in OwnLoop. Assumes nothing.
+use Rattle.mac.proofs.laws.own.OwnLoop as steps
 use borrow.Author.Needs.{needs}
 use Rattle.mac.proofs.own.own_keep.Statement.{statement}
 use Rattle.mac.proofs.own.own_keep.Tie as tie

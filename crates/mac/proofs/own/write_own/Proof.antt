@@ -1,5 +1,5 @@
--- `write_own` meets its contract: each place by its law in OwnSteps. Assumes nothing.
-use Rattle.mac.proofs.OwnSteps as steps
+-- `write_own` meets its contract: each place by its law in OwnLoop. Assumes nothing.
+use Rattle.mac.proofs.laws.own.OwnLoop as steps
 use borrow.Author.Needs.{needs}
 use Prim.Native.Nat.{_-_}
 use Rattle.mac.proofs.own.write_own.Statement.{statement}

@@ -1,6 +1,6 @@
--- `measure_selected` meets its contract: each place by its law in SignatureSteps. Assumes nothing.
-use Rattle.mac.proofs.CallSteps as into
-use Rattle.mac.proofs.SignatureSteps as steps
+-- `measure_selected` meets its contract: each place by its law in SignatureMode. Assumes nothing.
+use Rattle.mac.proofs.laws.modes.EitherCall as into
+use Rattle.mac.proofs.laws.signature_mode.SignatureMode as steps
 use Rattle.dataset.proofs.laws.reading.Loops.{size-passed}
 use borrow.Author.Needs.{needs}
 use Rattle.mac.proofs.signature_mode.measure_selected.Statement.{statement}

@@ -1,5 +1,5 @@
--- `signature_call` meets its contract: each place by its law in SignatureSteps. Assumes nothing.
-use Rattle.mac.proofs.SignatureSteps as steps
+-- `signature_call` meets its contract: each place by its law in SignatureMode. Assumes nothing.
+use Rattle.mac.proofs.laws.signature_mode.SignatureMode as steps
 use borrow.Author.Needs.{needs}
 use Rattle.mac.proofs.signature_mode.signature_call.Statement.{statement}
 use Rattle.mac.proofs.signature_mode.signature_call.Tie as tie

@@ -1,5 +1,5 @@
 -- `signature_stream` meets its contract. Assumes nothing.
-use Rattle.mac.proofs.SignatureSteps as steps
+use Rattle.mac.proofs.laws.signature_mode.SignatureMode as steps
 use borrow.Author.Needs.{needs}
 use Rattle.mac.proofs.signature_mode.signature_stream.Statement.{statement}
 use Rattle.mac.proofs.signature_mode.signature_stream.Tie as tie

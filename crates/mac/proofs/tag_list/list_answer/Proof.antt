@@ -1,5 +1,5 @@
--- `list_answer` meets its contract: each place by its law in TagListSteps. Assumes nothing.
-use Rattle.mac.proofs.TagListSteps as steps
+-- `list_answer` meets its contract: each place by its law in TagChecks. Assumes nothing.
+use Rattle.mac.proofs.laws.tag_list.TagChecks as steps
 use borrow.Author.Needs.{needs}
 use Rattle.mac.proofs.tag_list.list_answer.Statement.{statement}
 use Rattle.mac.proofs.tag_list.list_answer.Tie as tie

@@ -1,6 +1,6 @@
 -- `tag_at` meets its contract: the tag stands in the list. Assumes nothing.
 use borrow.Author.Needs.{needs}
-use Rattle.mac.proofs.TagListSteps as steps
+use Rattle.mac.proofs.laws.tag_list.TagChecks as steps
 use Rattle.mac.proofs.tag_list.tag_at.Statement.{statement}
 use Rattle.mac.proofs.tag_list.tag_at.Tie as tie
 

@@ -1,5 +1,5 @@
--- `bad_digest_length` meets its contract: its law is in CheckSteps. Assumes nothing.
-use Rattle.mac.proofs.CheckSteps as steps
+-- `bad_digest_length` meets its contract: its law is in Checks. Assumes nothing.
+use Rattle.mac.proofs.laws.verdict.Checks as steps
 use borrow.Author.Needs.{needs}
 use Rattle.mac.proofs.verdict.bad_digest_length.Statement.{statement}
 use Rattle.mac.proofs.verdict.bad_digest_length.Tie as tie

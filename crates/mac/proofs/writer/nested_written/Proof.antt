@@ -1,5 +1,5 @@
 -- `nested_written` meets its contract. Assumes nothing.
-use Rattle.mac.proofs.WrittenSteps as steps
+use Rattle.mac.proofs.laws.writer.WrittenArms as steps
 use borrow.Author.Needs.{needs}
 use Rattle.mac.proofs.writer.nested_written.Statement.{statement}
 use Rattle.mac.proofs.writer.nested_written.Tie as tie

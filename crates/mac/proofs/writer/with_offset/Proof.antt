@@ -1,5 +1,5 @@
 -- `with_offset` meets its contract. Assumes nothing.
-use Rattle.mac.proofs.WrittenSteps as steps
+use Rattle.mac.proofs.laws.writer.WrittenArms as steps
 use borrow.Author.Needs.{needs}
 use Rattle.mac.proofs.writer.with_offset.Statement.{statement}
 use Rattle.mac.proofs.writer.with_offset.Tie as tie

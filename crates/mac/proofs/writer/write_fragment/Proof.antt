@@ -1,5 +1,5 @@
--- `write_fragment` meets its contract: each place by its law in FragmentsSteps. Assumes nothing.
-use Rattle.mac.proofs.FragmentsSteps as steps
+-- `write_fragment` meets its contract: each place by its law in FragmentsLoop. Assumes nothing.
+use Rattle.mac.proofs.laws.writer.FragmentsLoop as steps
 use borrow.Author.Needs.{needs}
 use Rattle.mac.proofs.writer.write_fragment.Statement.{statement}
 use Rattle.mac.proofs.writer.write_fragment.Tie as tie

@@ -1,5 +1,5 @@
--- `write_fragments` meets its contract: each place by its law in FragmentsSteps. Assumes nothing.
-use Rattle.mac.proofs.FragmentsSteps as steps
+-- `write_fragments` meets its contract: each place by its law in FragmentsLoop. Assumes nothing.
+use Rattle.mac.proofs.laws.writer.FragmentsLoop as steps
 use borrow.Author.Needs.{needs}
 use Prim.Native.Nat.{_-_}
 use Rattle.mac.proofs.writer.write_fragments.Statement.{statement}

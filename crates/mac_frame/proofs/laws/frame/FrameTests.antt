@@ -19,8 +19,8 @@ use Rattle.mac.specs.ListMode.{Call, answer, stream, streamCall, result}
 use Rattle.mac_frame.specs.Text.{line, hexLines}
 use Rattle.mac_frame.specs.Frame.{inputLimit, outputRoom, big32, frameOf, frameCall, report, printedBy, printed}
 use Rattle.mac_frame.specs.Inner.Wrote.{Wrote, Holds}
-use Rattle.mac_theorems.proofs.Acceptance.{answer-accepted, answer-fits}
-use Rattle.mac_theorems.proofs.Outputs.{output-stream}
+use Rattle.mac_theorems.proofs.laws.answers.Acceptance.{answer-accepted, answer-fits}
+use Rattle.mac_theorems.proofs.laws.answers.Outputs.{output-stream}
 use Rattle.mac_frame.proofs.laws.text.TextPieces.{wrote-then}
 use Rattle.mac_frame.specs.declared.frame.Frame.{Frame}
 use Rattle.mac_frame.specs.declared.frame.Frame.the-variants as frame

@@ -19,7 +19,7 @@ use Rattle.slices.proofs.laws.Parts.{length-between}
 use Rattle.mac_theorems.specs.Calls.{inListMode}
 use Rattle.mac_theorems.specs.Theorems.{Positioned}
 use Rattle.mac_theorems.proofs.Theorems as mac
-use Rattle.mac_theorems.proofs.Acceptance.{answer-accepted}
+use Rattle.mac_theorems.proofs.laws.answers.Acceptance.{answer-accepted}
 use Rattle.mac_frame.specs.Text.{hex, isEmpty, lineEnd, hexFrom}
 use Rattle.mac_frame.specs.Frame.{frameOf, frameCall, report, printedBy, printed, Printed}
 use Rattle.mac_frame.specs.declared.frame.Frame.{Frame}

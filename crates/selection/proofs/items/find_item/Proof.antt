@@ -1,5 +1,5 @@
--- `find_item` meets its contract: the invariant is `FindItemLoop`, and each place is a law of FindItemSteps. Assumes nothing.
-use Rattle.selection.proofs.FindItemSteps as steps
+-- `find_item` meets its contract: the invariant is `FindItemLoop`, and each place is a law of FindItemLoop. Assumes nothing.
+use Rattle.selection.proofs.laws.items.FindItemLoop as steps
 use borrow.Author.Needs.{needs}
 use Prim.Native.Nat.{_-_}
 use Rattle.selection.proofs.items.find_item.Statement.{statement}

@@ -1,5 +1,5 @@
--- `has_key` meets its contract: each place by its law in SelectionTests. Assumes nothing.
-use Rattle.selection.proofs.SelectionTests as tests
+-- `has_key` meets its contract: each place by its law in MacIdTests. Assumes nothing.
+use Rattle.selection.proofs.laws.items.MacIdTests as tests
 use borrow.Author.Needs.{needs}
 use Rattle.selection.proofs.items.has_key.Statement.{statement}
 use Rattle.selection.proofs.items.has_key.Tie as tie

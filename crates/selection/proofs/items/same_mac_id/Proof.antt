@@ -1,6 +1,6 @@
--- `same_mac_id` meets its contract: each place by its law in SelectionTests. Assumes nothing.
-use Rattle.selection.proofs.PlaceValues as places
-use Rattle.selection.proofs.SelectionTests as tests
+-- `same_mac_id` meets its contract: each place by its law in MacIdTests. Assumes nothing.
+use Rattle.selection.proofs.laws.PlaceValues as places
+use Rattle.selection.proofs.laws.items.MacIdTests as tests
 use borrow.Author.Tests.{not-true, not-false}
 use borrow.Author.Needs.{needs}
 use Rattle.selection.proofs.items.same_mac_id.Statement.{statement}
@@ -10,7 +10,7 @@ enum-known-p : tie.Need-enum-known-p
 enum-known-p c = search needs
 
 returns : tie.Need-returns
-returns c = search tests.test-none
+returns c = search places.test-none
 
 is-mac-id-requires : tie.Need-is-mac-id-requires
 is-mac-id-requires c κs = search places.value-order

@@ -1,6 +1,6 @@
--- `algorithm_of` meets its contract: each place by its law in SelectionTests. Assumes nothing.
-use Rattle.selection.proofs.PlaceValues as places
-use Rattle.selection.proofs.SelectionTests as tests
+-- `algorithm_of` meets its contract: each place by its law in ValueTests. Assumes nothing.
+use Rattle.selection.proofs.laws.PlaceValues as places
+use Rattle.selection.proofs.laws.parameters.ValueTests as tests
 use Rattle.selection.specs.Selection.{algorithmOf}
 use borrow.Author.Tests.{not-true, not-false}
 use borrow.Author.Needs.{needs}
@@ -12,11 +12,11 @@ enum-known-p c = search needs
 
 returns : tie.Need-returns
 unfolding algorithmOf
-returns c = search tests.test-none
+returns c = search places.test-none
 
 returns-2 : tie.Need-returns-2
 unfolding algorithmOf
-returns-2 c = search tests.test-other
+returns-2 c = search places.test-other
 
 sub-is-sha256 : tie.Need-sub-is-sha256
 sub-is-sha256 c = search places.value-order
@@ -31,10 +31,10 @@ is-sha256-requires : tie.Need-is-sha256-requires
 is-sha256-requires c κs = search needs
 
 returns-3 : tie.Need-returns-3
-returns-3 c = search (tests.test-value, tests.term-unknown, not-true)
+returns-3 c = search (places.test-value, tests.term-unknown, not-true)
 
 returns-4 : tie.Need-returns-4
-returns-4 c = search (tests.test-value, tests.term-known, not-false)
+returns-4 c = search (places.test-value, tests.term-known, not-false)
 
 pub algorithm-of-spec : {M : Type 1} → statement M
 algorithm-of-spec =

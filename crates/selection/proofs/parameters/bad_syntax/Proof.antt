@@ -1,6 +1,5 @@
--- `bad_syntax` meets its contract: each place by its law in SelectionTests. Assumes nothing.
-use Rattle.selection.proofs.PlaceValues as places
-use Rattle.selection.proofs.SelectionTests as tests
+-- `bad_syntax` meets its contract: each place by its law in ValueTests. Assumes nothing.
+use Rattle.selection.proofs.laws.PlaceValues as places
 use Rattle.selection.specs.Selection.{badTransferSyntax}
 use borrow.Author.Needs.{needs}
 use Rattle.selection.proofs.parameters.bad_syntax.Statement.{statement}
@@ -11,11 +10,11 @@ enum-known-p c = search needs
 
 returns : tie.Need-returns
 unfolding badTransferSyntax
-returns c = search tests.test-none
+returns c = search places.test-none
 
 returns-2 : tie.Need-returns-2
 unfolding badTransferSyntax
-returns-2 c = search tests.test-other
+returns-2 c = search places.test-other
 
 sub-bad-uid : tie.Need-sub-bad-uid
 sub-bad-uid c = search places.value-order
@@ -30,7 +29,7 @@ bad-uid-requires : tie.Need-bad-uid-requires
 bad-uid-requires c κs = search needs
 
 returns-3 : tie.Need-returns-3
-returns-3 c = search tests.test-value
+returns-3 c = search places.test-value
 
 pub bad-syntax-spec : {M : Type 1} → statement M
 bad-syntax-spec =

@@ -1,5 +1,5 @@
--- `is_sha256` meets its contract: each place by its law in SelectionTests. Assumes nothing.
-use Rattle.selection.proofs.SelectionTests as tests
+-- `is_sha256` meets its contract: each place by its law in ValueTests. Assumes nothing.
+use Rattle.selection.proofs.laws.parameters.ValueTests as tests
 use borrow.Author.Tests.{not-true, not-false}
 use borrow.Author.Needs.{needs}
 use Rattle.selection.proofs.parameters.is_sha256.Statement.{statement}

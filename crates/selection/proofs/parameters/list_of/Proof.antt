@@ -1,6 +1,6 @@
--- `list_of` meets its contract: each place by its law in ParametersSteps. Assumes nothing.
-use Rattle.selection.proofs.PlaceValues as places
-use Rattle.selection.proofs.ParametersSteps as steps
+-- `list_of` meets its contract: each place by its law in Parameters. Assumes nothing.
+use Rattle.selection.proofs.laws.PlaceValues as places
+use Rattle.selection.proofs.laws.parameters.Parameters as steps
 use borrow.Author.Needs.{needs}
 use Rattle.selection.proofs.parameters.list_of.Statement.{statement}
 use Rattle.selection.proofs.parameters.list_of.Tie as tie

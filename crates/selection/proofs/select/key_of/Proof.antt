@@ -1,5 +1,5 @@
--- `key_of` meets its contract: its law is in SelectionTests. Assumes nothing.
-use Rattle.selection.proofs.SelectionTests as tests
+-- `key_of` meets its contract: its law is in MacIdTests. Assumes nothing.
+use Rattle.selection.proofs.laws.items.MacIdTests as tests
 use borrow.Author.Needs.{needs}
 use Rattle.selection.proofs.select.key_of.Statement.{statement}
 use Rattle.selection.proofs.select.key_of.Tie as tie

@@ -1,6 +1,6 @@
--- `select` meets its contract: each place by its law in SelectSteps. Assumes nothing.
-use Rattle.selection.proofs.PlaceValues as places
-use Rattle.selection.proofs.SelectSteps as steps
+-- `select` meets its contract: each place by its law in SelectPlaces. Assumes nothing.
+use Rattle.selection.proofs.laws.PlaceValues as places
+use Rattle.selection.proofs.laws.select.SelectPlaces as steps
 use borrow.Author.Needs.{needs}
 use Rattle.selection.proofs.select.select.Statement.{statement}
 use Rattle.selection.proofs.select.select.Tie as tie

@@ -1,7 +1,7 @@
--- `select_from` meets its contract: each place by its law in SelectSteps. Assumes nothing.
-use Rattle.selection.proofs.PlaceValues as places
-use Rattle.selection.proofs.SelectionTests as tests
-use Rattle.selection.proofs.SelectSteps as steps
+-- `select_from` meets its contract: each place by its law in SelectPlaces. Assumes nothing.
+use Rattle.selection.proofs.laws.PlaceValues as places
+use Rattle.selection.proofs.laws.items.MacIdTests as tests
+use Rattle.selection.proofs.laws.select.SelectPlaces as steps
 use borrow.Author.Tests.{not-true, not-false}
 use borrow.Author.Needs.{needs}
 use Rattle.selection.proofs.select.select_from.Statement.{statement}

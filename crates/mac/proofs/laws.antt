@@ -1,0 +1,9 @@
+pub mod keep
+pub mod list_mode
+pub mod listed
+pub mod modes
+pub mod own
+pub mod signature_mode
+pub mod tag_list
+pub mod verdict
+pub mod writer

@@ -1,0 +1,4 @@
+pub mod Finding
+pub mod Merge
+pub mod MergeArms
+pub mod WalkListLoop

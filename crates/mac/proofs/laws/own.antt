@@ -1,0 +1,2 @@
+pub mod OwnElements
+pub mod OwnLoop

@@ -1,0 +1,9 @@
+pub mod BarredLoop
+pub mod ElementsLoop
+pub mod FragmentsLoop
+pub mod ItemsLoop
+pub mod OneElement
+pub mod OneWalks
+pub mod StreamLength
+pub mod Walks
+pub mod WrittenArms

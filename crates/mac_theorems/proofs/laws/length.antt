@@ -1,0 +1,4 @@
+pub mod FoundLies
+pub mod ListInsertion
+pub mod ListStreamLength
+pub mod SignatureStreamLength

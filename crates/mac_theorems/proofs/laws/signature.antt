@@ -1,0 +1,2 @@
+pub mod SelectedItem
+pub mod SignatureStream

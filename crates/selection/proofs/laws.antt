@@ -1,0 +1,4 @@
+pub mod PlaceValues
+pub mod items
+pub mod parameters
+pub mod select

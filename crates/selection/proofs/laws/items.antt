@@ -1,0 +1,2 @@
+pub mod FindItemLoop
+pub mod MacIdTests

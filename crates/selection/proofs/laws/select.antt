@@ -1,0 +1,2 @@
+pub mod SelectPlaces
+pub mod SelectionNumbers
