@@ -5,7 +5,7 @@ use Prim.Native.Nat.{ℕ}
 use mathlib.Core.Bool.{true, false}
 use mathlib.Core.List.{List}
 use Rattle.answer.specs.declared.Answer.{Answer}
-use Rattle.dataset.specs.Header.{ItemHeader, itemAt}
+use Rattle.dataset.specs.Header.{ItemHeader, faultAt, itemAt}
 use Rattle.dataset.specs.Tree.{Elements, Items}
 use Rattle.dataset.specs.Reading.{Reading, explicit, elementsAt, itemsAt, levels, deeper}
 use Rattle.dataset.specs.declared.extent.Extent.{Extent}
@@ -31,7 +31,7 @@ pub data ItemIn : Type 0 where
 
 -- "those in the items of a sequence at level n are at level n + 1" (2.3): an item of a sequence with `left` levels, by its header
 abbrev pub itemInBy : (left : ℕ) → ItemHeader → ItemIn
-itemInBy left (ItemHeader.refused a) = ItemIn.refused a
+itemInBy left (ItemHeader.refused number position) = ItemIn.refused (faultAt number position)
 itemInBy left (ItemHeader.ends next) = ItemIn.ends next
 itemInBy left (ItemHeader.item start end delimited) = ItemIn.item (record { delimited = delimited; left = deeper left; stop = end; from = start })
 

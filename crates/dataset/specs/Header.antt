@@ -27,15 +27,11 @@ use Rattle.dataset.specs.declared.header.ItemHeader.the-variants as item
 
 -- ---- what stands at a place
 
--- The fault of the header at `at`: the position "is the offset of the header at which it is found" (2.20). Every fault of the reading but 1 is
--- this one.
-abbrev pub faultAt : (number at : ℕ) → Answer
-faultAt number at = answer.refused number at
-
--- In an element's place: a refusal, with its fault; the end of the data set, with the offset of what follows it; a value that is not looked
--- into; items, up to `end` or to a sequence delimiter before it (`delimited`); or fragments, up to a sequence delimiter.
+-- In an element's place: a refusal, by its number and its position, which "is the offset of the header at which it is found" (2.20); the end
+-- of the data set, with the offset of what follows it; a value that is not looked into; items, up to `end` or to a sequence delimiter before
+-- it (`delimited`); or fragments, up to a sequence delimiter.
 pub data ElementHeader : Type 0 where
-  refused : Answer → ElementHeader
+  refused : (number position : ℕ) → ElementHeader
   ends : (next : ℕ) → ElementHeader
   value : (tag vr start end : ℕ) → ElementHeader
   sequence : (tag start end : ℕ) (delimited : Bool) → ElementHeader
@@ -44,22 +40,26 @@ pub data ElementHeader : Type 0 where
 -- In the place of an item or a fragment: a refusal; the end of the items or fragments, with the offset of what follows them; or one of them,
 -- up to `end` or to an item delimiter before it (`delimited`).
 pub data ItemHeader : Type 0 where
-  refused : Answer → ItemHeader
+  refused : (number position : ℕ) → ItemHeader
   ends : (next : ℕ) → ItemHeader
   item : (start end : ℕ) (delimited : Bool) → ItemHeader
 
 -- the cases of the two enums of src/header.rt, by their values (13.2); a refusal has its number, every other case number 0
 abbrev pub elementCase : elementEnum.ElementHeader → ElementHeader
-elementCase (elementHeader.Refused a) = ElementHeader.refused a
+elementCase (elementHeader.Refused number position) = ElementHeader.refused number position
 elementCase (elementHeader.End next) = ElementHeader.ends next
 elementCase (elementHeader.Value tag vr start end) = ElementHeader.value tag vr start end
 elementCase (elementHeader.Sequence tag start end delimited) = ElementHeader.sequence tag start end delimited
 elementCase (elementHeader.Fragments tag start) = ElementHeader.fragments tag start
 
 abbrev pub itemCase : itemEnum.ItemHeader → ItemHeader
-itemCase (itemHeader.Refused a) = ItemHeader.refused a
+itemCase (itemHeader.Refused number position) = ItemHeader.refused number position
 itemCase (itemHeader.End next) = ItemHeader.ends next
 itemCase (itemHeader.Item start end delimited) = ItemHeader.item start end delimited
+
+-- The fault of a refused header: every fault of the reading but 1 is this one.
+abbrev pub faultAt : (number position : ℕ) → Answer
+faultAt number position = answer.refused number position
 
 -- ---- what the headers share
 
@@ -102,24 +102,24 @@ definedBy tag vr start end = if eqb vr SQ then ElementHeader.sequence tag start 
 -- 2.11g, 2.11h, and 2.11i: "the length is defined, and the value ends past the extent"
 unfoldable pub valueBy : (tag vr left stop at start len : ℕ) → ElementHeader
 valueBy tag vr left stop at start len =
-    if badLength vr len then ElementHeader.refused (faultAt 7 at) else
-    if tooDeep vr left then ElementHeader.refused (faultAt 8 at) else
+    if badLength vr len then ElementHeader.refused 7 at else
+    if tooDeep vr left then ElementHeader.refused 8 at else
     if eqb len undefined then undefinedBy tag vr stop start else
-    if ltb (stop - start) len then ElementHeader.refused (faultAt 2 at) else
+    if ltb (stop - start) len then ElementHeader.refused 2 at else
     definedBy tag vr start (start + len)
 
 -- 2.11e: "the form is long, and fewer than 12 bytes are left"; 2.11f: "the reserved bytes are not zero"
 unfoldable pub longAt : List ℕ → (tag vr left stop at : ℕ) → ElementHeader
 longAt d tag vr left stop at =
-    if ltb (stop - at) 12 then ElementHeader.refused (faultAt 2 at) else
-    if not (eqb (num16 d (at + 6)) 0) then ElementHeader.refused (faultAt 6 at) else
+    if ltb (stop - at) 12 then ElementHeader.refused 2 at else
+    if not (eqb (num16 d (at + 6)) 0) then ElementHeader.refused 6 at else
     valueBy tag vr left stop at (at + 12) (num32 d (at + 8))
 
 -- 2.11d: "the VR is neither in 2.6 nor in 2.7"
 unfoldable pub byForm : Form → List ℕ → (tag vr left stop at : ℕ) → ElementHeader
 byForm Short d tag vr left stop at = valueBy tag vr left stop at (at + 8) (num16 d (at + 6))
 byForm Long d tag vr left stop at = longAt d tag vr left stop at
-byForm Neither d tag vr left stop at = ElementHeader.refused (faultAt 5 at)
+byForm Neither d tag vr left stop at = ElementHeader.refused 5 at
 
 -- the checks from the VR on, by the VR that stands there
 unfoldable pub vrOnAt : List ℕ → (tag left stop at : ℕ) → ElementHeader
@@ -130,12 +130,12 @@ vrOnAt d tag left stop at = byForm (formOf (vrAt d at)) d tag (vrAt d at) left s
 -- 2.11c: "the tag is not above that of the element before it in the same data set"
 unfoldable pub elementAt : List ℕ → (delimited : Bool) (left stop at least : ℕ) → ElementHeader
 elementAt d delimited left stop at least =
-    if outside d stop at then ElementHeader.refused (faultAt 2 at) else
+    if outside d stop at then ElementHeader.refused 2 at else
     if endsAt delimited stop at then ElementHeader.ends at else
-    if ltb (stop - at) 8 then ElementHeader.refused (faultAt 2 at) else
+    if ltb (stop - at) 8 then ElementHeader.refused 2 at else
     if closedBy d itemDelimitationItem delimited at then ElementHeader.ends (at + 8) else
-    if eqb (num16 d at) 0xFFFE then ElementHeader.refused (faultAt 3 at) else
-    if ltb (tagAt d at) least then ElementHeader.refused (faultAt 4 at) else
+    if eqb (num16 d at) 0xFFFE then ElementHeader.refused 3 at else
+    if ltb (tagAt d at) least then ElementHeader.refused 4 at else
     vrOnAt d (tagAt d at) left stop at
 
 -- ---- an item or a fragment
@@ -145,8 +145,8 @@ elementAt d delimited left stop at least =
 unfoldable pub itemBy : (inSequence : Bool) (stop at start len : ℕ) → ItemHeader
 itemBy inSequence stop at start len =
     if eqb len undefined && inSequence then ItemHeader.item start stop true else
-    if eqb (len % 2) 1 then ItemHeader.refused (faultAt 7 at) else
-    if ltb (stop - start) len then ItemHeader.refused (faultAt 2 at) else
+    if eqb (len % 2) 1 then ItemHeader.refused 7 at else
+    if ltb (stop - start) len then ItemHeader.refused 2 at else
     ItemHeader.item start (start + len) false
 
 -- What stands at `at` in the place of an item of a sequence (`inSequence`) or of a fragment, in an extent that ends at `stop`, or
@@ -154,9 +154,9 @@ itemBy inSequence stop at start len =
 -- delimiter's gives 3" (2.16)
 unfoldable pub itemAt : List ℕ → (inSequence delimited : Bool) (stop at : ℕ) → ItemHeader
 itemAt d inSequence delimited stop at =
-    if outside d stop at then ItemHeader.refused (faultAt 2 at) else
+    if outside d stop at then ItemHeader.refused 2 at else
     if endsAt delimited stop at then ItemHeader.ends at else
-    if ltb (stop - at) 8 then ItemHeader.refused (faultAt 2 at) else
+    if ltb (stop - at) 8 then ItemHeader.refused 2 at else
     if closedBy d sequenceDelimitationItem delimited at then ItemHeader.ends (at + 8) else
-    if not (eqb (tagAt d at) itemTag) then ItemHeader.refused (faultAt 3 at) else
+    if not (eqb (tagAt d at) itemTag) then ItemHeader.refused 3 at else
     itemBy inSequence stop at (at + 8) (num32 d (at + 4))

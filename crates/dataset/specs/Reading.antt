@@ -10,7 +10,7 @@ use lib.Dec.{eqb, ltb}
 use Rattle.answer.specs.declared.Answer.{Answer}
 use Rattle.answer.specs.Answer as answer
 use Rattle.slices.specs.If.{if_then_else_}
-use Rattle.dataset.specs.Header.{ElementHeader, ItemHeader, elementAt, itemAt}
+use Rattle.dataset.specs.Header.{ElementHeader, ItemHeader, faultAt, elementAt, itemAt}
 use Rattle.dataset.specs.Tree.{Span, span, Element, value, sequence, fragments, Elements, none, and, Items, last, item, tagOf, vrOf, spanOf}
 use Rattle.dataset.specs.declared.reading.OneOutcome.{OneOutcome}
 use Rattle.dataset.specs.declared.reading.OneOutcome.the-variants as one
@@ -45,7 +45,7 @@ explicit = record { element = elementAt; item = itemAt }
 -- 8 bytes, is no part of the value.
 unfoldable pub byHeader : (items : (delimited : Bool) (stop start : ℕ) → Reading Items) (parts : (start : ℕ) → Reading (List Span)) (at : ℕ)
     → ElementHeader → Reading One
-byHeader items parts at (ElementHeader.refused a) = fault a
+byHeader items parts at (ElementHeader.refused number position) = fault (faultAt number position)
 byHeader items parts at (ElementHeader.ends next) = read ended next
 byHeader items parts at (ElementHeader.value tag vr start stop) = read (element (value at tag vr (span start stop))) stop
 byHeader items parts at (ElementHeader.sequence tag start stop delimited) = do
@@ -65,7 +65,7 @@ byOne elements (element e, next) = do
 -- Items are one item and the rest. Handed in are the readers of an item's elements and of the rest.
 unfoldable pub byItem : (elements : (delimited : Bool) (stop start : ℕ) → Reading Elements) (items : (next : ℕ) → Reading Items) (at : ℕ)
     → ItemHeader → Reading Items
-byItem elements items at (ItemHeader.refused a) = fault a
+byItem elements items at (ItemHeader.refused number position) = fault (faultAt number position)
 byItem elements items at (ItemHeader.ends next) = read last next
 byItem elements items at (ItemHeader.item start stop delimited) = do
   (inside, next) ← elements delimited stop start
@@ -74,7 +74,7 @@ byItem elements items at (ItemHeader.item start stop delimited) = do
 
 -- Fragments are one fragment and the rest: "Nothing inside a fragment .. is examined." (2.19). Handed in is the reader of the rest.
 unfoldable pub byFragment : (parts : (next : ℕ) → Reading (List Span)) → ItemHeader → Reading (List Span)
-byFragment parts (ItemHeader.refused a) = fault a
+byFragment parts (ItemHeader.refused number position) = fault (faultAt number position)
 byFragment parts (ItemHeader.ends next) = read [] next
 byFragment parts (ItemHeader.item start stop delimited) = do
   (rest, after) ← parts stop

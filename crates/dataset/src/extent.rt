@@ -41,7 +41,10 @@ pub fn item_in(d: &[u8], x: Extent, at: usize) -> ItemIn
     ensures { λ r. ⌜ itemInCase r ≡ itemIn (now (d .entry)) x at ⌝ }
 {
     match header::item_header(d, true, x.delimited, x.stop, at) {
-        ItemHeader::Refused(fault) => ItemIn::Refused(fault),
+        ItemHeader::Refused { number, position } => ItemIn::Refused(header::fault(
+            number,
+            position,
+        )),
         ItemHeader::End(next) => ItemIn::End(next),
         ItemHeader::Item {
             start,

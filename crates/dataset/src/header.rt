@@ -12,8 +12,11 @@ ghost use Rattle.dataset.specs.Header.{faultAt, elementCase, itemCase, o
 
 // What stands in an element's place.
 pub enum ElementHeader {
-    // refused, with this fault
-    Refused(Answer),
+    // refused, with this number, at this header
+    Refused {
+        number: u8,
+        position: usize,
+    },
     // the data set ends here; what follows it is at this offset
     End(usize),
     // a value that is not looked into, from start to end
@@ -39,8 +42,11 @@ pub enum ElementHeader {
 
 // What stands in an item's or a fragment's place.
 pub enum ItemHeader {
-    // refused, with this fault
-    Refused(Answer),
+    // refused, with this number, at this header
+    Refused {
+        number: u8,
+        position: usize,
+    },
     // the items or fragments end here; what follows them is at this offset
     End(usize),
     // from start up to end, or to an item delimiter before end
@@ -53,25 +59,31 @@ pub enum ItemHeader {
 
 const UNDEFINED: usize = 0xFFFFFFFF;
 
-// The fault of the header at `at`. Every fault of the reading but 1 is made here.
-pub(crate) fn fault(number: u8, at: usize) -> Answer
-    ensures { λ r. ⌜ r ≡ faultAt number at ⌝ }
+// The fault of a refused header. Every fault of the reading but 1 is made here.
+pub fn fault(number: u8, position: usize) -> Answer
+    ensures { λ r. ⌜ r ≡ faultAt number position ⌝ }
 {
-    Answer::refused(number, at)
+    Answer::refused(number, position)
 }
 
-// A refusal in an element's place.
+// The refusal of the header at `at`, in an element's place.
 fn refused_element(at: usize, number: u8) -> ElementHeader
-    ensures { λ r. ⌜ elementCase r ≡ spec.ElementHeader.refused (faultAt number at) ⌝ }
+    ensures { λ r. ⌜ elementCase r ≡ spec.ElementHeader.refused number at ⌝ }
 {
-    ElementHeader::Refused(fault(number, at))
+    ElementHeader::Refused {
+        number,
+        position: at,
+    }
 }
 
-// A refusal in the place of an item or a fragment.
+// The refusal of the header at `at`, in the place of an item or a fragment.
 fn refused_item(at: usize, number: u8) -> ItemHeader
-    ensures { λ r. ⌜ itemCase r ≡ spec.ItemHeader.refused (faultAt number at) ⌝ }
+    ensures { λ r. ⌜ itemCase r ≡ spec.ItemHeader.refused number at ⌝ }
 {
-    ItemHeader::Refused(fault(number, at))
+    ItemHeader::Refused {
+        number,
+        position: at,
+    }
 }
 
 // A value, or a sequence of defined length.

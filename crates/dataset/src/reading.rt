@@ -61,7 +61,10 @@ fn read_fragments(d: &[u8], left: u32, stop: usize, from: usize) -> Outcome
     let mut at = from;
     loop {
         match header::item_header(d, false, true, stop, at) {
-            ItemHeader::Refused(fault) => return Outcome::Refused(fault),
+            ItemHeader::Refused { number, position } => return Outcome::Refused(header::fault(
+                number,
+                position,
+            )),
             ItemHeader::End(next) => return Outcome::Next(next),
             ItemHeader::Item {
                 start: _,
@@ -113,7 +116,10 @@ pub fn read_one(
     ensures { λ r. ⌜ oneCase r ≡ handedOn (oneAt explicit (now (d .entry)) delimited left stop at least) ⌝ }
 {
     match header::header(d, delimited, left, stop, at, least) {
-        ElementHeader::Refused(fault) => OneOutcome::Refused(fault),
+        ElementHeader::Refused { number, position } => OneOutcome::Refused(header::fault(
+            number,
+            position,
+        )),
         ElementHeader::End(next) => OneOutcome::End(next),
         ElementHeader::Value {
             tag,
@@ -176,7 +182,10 @@ fn read_items(d: &[u8], delimited: bool, left: u32, stop: usize, from: usize) ->
     let mut at = from;
     loop {
         match header::item_header(d, true, delimited, stop, at) {
-            ItemHeader::Refused(fault) => return Outcome::Refused(fault),
+            ItemHeader::Refused { number, position } => return Outcome::Refused(header::fault(
+                number,
+                position,
+            )),
             ItemHeader::End(next) => return Outcome::Next(next),
             ItemHeader::Item {
                 start,

@@ -28,7 +28,10 @@ pub(crate) fn keeps_header(keep: Keep, h: ElementHeader) -> bool
     ensures { λ r. ⌜ r ≡ keepsHeader keep (elementCase h) ⌝ }
 {
     match h {
-        ElementHeader::Refused(_) => false,
+        ElementHeader::Refused {
+            number: _,
+            position: _,
+        } => false,
         ElementHeader::End(_) => false,
         ElementHeader::Value {
             tag,

@@ -128,7 +128,10 @@ fn write_fragments(
     let mut to = onto;
     loop {
         match header::item_header(d, false, true, stop, at) {
-            ItemHeader::Refused(fault) => return Written::Refused(fault),
+            ItemHeader::Refused { number, position } => return Written::Refused(header::fault(
+                number,
+                position,
+            )),
             ItemHeader::End(next) => {
                 output::put_sequence_delimiter(out, to);
                 let close = to + 4;
@@ -165,7 +168,10 @@ fn write_element(
     ensures { λ r. ⌜ ElementWalk (now (d .entry)) left stop at (elementCase h) to r (now (out .entry)) (now (out .exit)) ⌝ }
 {
     match h {
-        ElementHeader::Refused(fault) => OneWritten::Refused(fault),
+        ElementHeader::Refused { number, position } => OneWritten::Refused(header::fault(
+            number,
+            position,
+        )),
         ElementHeader::End(next) => OneWritten::End(next),
         ElementHeader::Value {
             tag,
@@ -287,7 +293,10 @@ fn write_items(
     let mut to = onto;
     loop {
         match header::item_header(d, true, delimited, stop, at) {
-            ItemHeader::Refused(fault) => return Written::Refused(fault),
+            ItemHeader::Refused { number, position } => return Written::Refused(header::fault(
+                number,
+                position,
+            )),
             ItemHeader::End(next) => {
                 output::put_sequence_delimiter(out, to);
                 let close = to + 4;

@@ -15,7 +15,7 @@ keeps keep.Nothing tag = false
 
 -- by the header of an element; where there is no element nothing is kept
 abbrev pub keepsHeader : Keep → ElementHeader → Bool
-keepsHeader k (ElementHeader.refused a) = false
+keepsHeader k (ElementHeader.refused number position) = false
 keepsHeader k (ElementHeader.ends next) = false
 keepsHeader k (ElementHeader.value tag vr start end) = keeps k tag
 keepsHeader k (ElementHeader.sequence tag start end delimited) = keeps k tag

@@ -7,8 +7,11 @@ use Rattle.dataset.proofs.extent.item_in.Tie as tie
 item-header-requires : tie.Need-item-header-requires
 item-header-requires c κs = search needs
 
-enum-known-fault : tie.Need-enum-known-fault
-enum-known-fault c = search needs
+enum-known-number : tie.Need-enum-known-number
+enum-known-number c = search needs
+
+fault-requires : tie.Need-fault-requires
+fault-requires c κs = search needs
 
 enum-known-next : tie.Need-enum-known-next
 enum-known-next c = search needs
@@ -33,7 +36,8 @@ item-in-spec =
     tie.close
     (tie.spec
     item-header-requires
-    enum-known-fault
+    enum-known-number
+    fault-requires
     enum-known-next
     enum-known-start
     deeper-requires

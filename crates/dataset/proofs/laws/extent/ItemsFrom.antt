@@ -6,7 +6,7 @@ use mathlib.Core.List.{List}
 use native.Mathlib.Omega.{arith}
 use lib.ListN.{length}
 use Rattle.answer.specs.declared.Answer.{Answer}
-use Rattle.dataset.specs.Header.{ItemHeader, itemAt}
+use Rattle.dataset.specs.Header.{ItemHeader, faultAt, itemAt}
 use Rattle.dataset.specs.Tree.{Elements, Items}
 use Rattle.dataset.specs.Reading.{Reading, fault, read, _>>=_, explicit, byItem, elementsAt, itemsAt, deeper}
 use Rattle.dataset.specs.Extent.{ItemIn, elementsIn, itemInBy, itemIn, itemInCase}
@@ -25,13 +25,19 @@ abbrev pub itemsFrom : List ℕ → Extent → (at : ℕ) → Reading Items
 itemsFrom d x at = itemsAt explicit d (x .delimited) (x .left) (x .stop) at
 
 -- ---- the header, by what stands in an item's place
-is-refused : (left : ℕ) (p : ItemHeader) (f : Answer) → itemInBy left p ≡ ItemIn.refused f → p ≡ ItemHeader.refused f
-is-refused left (ItemHeader.refused a) f q = let k : a ≡ f = cc in ap ItemHeader.refused k
+record IsRefused (p : ItemHeader) (f : Answer) : Type 0 where
+  pub number : ℕ
+  pub position : ℕ
+  pub is : p ≡ ItemHeader.refused number position
+  pub fault-is : faultAt number position ≡ f
+
+is-refused : (left : ℕ) (p : ItemHeader) (f : Answer) → itemInBy left p ≡ ItemIn.refused f → IsRefused p f
+is-refused left (ItemHeader.refused number position) f q = record { number = number; position = position; is = refl; fault-is = cc }
 is-refused left (ItemHeader.ends n) f q = absurd (true≢false (cc))
 is-refused left (ItemHeader.item start end inner) f q = absurd (true≢false (cc))
 
 is-end : (left : ℕ) (p : ItemHeader) (next : ℕ) → itemInBy left p ≡ ItemIn.ends next → p ≡ ItemHeader.ends next
-is-end left (ItemHeader.refused a) next q = absurd (true≢false (cc))
+is-end left (ItemHeader.refused number position) next q = absurd (true≢false (cc))
 is-end left (ItemHeader.ends n) next q = let k : n ≡ next = cc in ap ItemHeader.ends k
 is-end left (ItemHeader.item start end inner) next q = absurd (true≢false (cc))
 
@@ -40,7 +46,7 @@ record IsItem (left : ℕ) (p : ItemHeader) (inside : Extent) : Type 0 where
   pub deep : inside .left ≡ deeper left
 
 is-item : (left : ℕ) (p : ItemHeader) (inside : Extent) → itemInBy left p ≡ ItemIn.item inside → IsItem left p inside
-is-item left (ItemHeader.refused a) inside q = absurd (true≢false (cc))
+is-item left (ItemHeader.refused number position) inside q = absurd (true≢false (cc))
 is-item left (ItemHeader.ends n) inside q = absurd (true≢false (cc))
 is-item left (ItemHeader.item start end inner) inside q =
     let k : record { delimited = inner; left = deeper left; stop = end; from = start } ≡ inside = cc in
@@ -59,7 +65,9 @@ module _ (d : List ℕ) (x : Extent) (at : ℕ) (r : itemEnum.ItemIn) (e : itemI
 
     pub items-refused : (f : Answer) → r ≡ itemPlace.Refused f → itemsFrom d x at ≡ fault f
     unfolding byItem
-    items-refused f q = items-by (ItemHeader.refused f) (is-refused (x .left) (itemAt d true (x .delimited) (x .stop) at) f (answered (itemPlace.Refused f) q))
+    items-refused f q =
+        let k = is-refused (x .left) (itemAt d true (x .delimited) (x .stop) at) f (answered (itemPlace.Refused f) q) in
+        items-by (ItemHeader.refused (k .number) (k .position)) (k .is) ∙ ap fault (k .fault-is)
 
     pub items-end : (next : ℕ) → r ≡ itemPlace.End next → itemsFrom d x at ≡ read Items.last next
     unfolding byItem

@@ -4,7 +4,7 @@ use mathlib.Core.Path.{_≡_}
 use mathlib.Core.Bool.{Bool, true}
 use mathlib.Core.List.{List}
 use Rattle.answer.specs.declared.Answer.{Answer}
-use Rattle.dataset.specs.Header.{itemCase, itemAt}
+use Rattle.dataset.specs.Header.{faultAt, itemCase, itemAt}
 use Rattle.dataset.specs.Reading.{deeper}
 use Rattle.dataset.specs.Extent.{itemIn, itemInCase}
 use Rattle.dataset.specs.declared.extent.Extent.{Extent}
@@ -13,9 +13,9 @@ use Rattle.dataset.specs.declared.header.ItemHeader.{ItemHeader}
 use Rattle.dataset.specs.declared.header.ItemHeader.the-variants as header
 
 module _ (d : List ℕ) (x : Extent) (at : ℕ) (r : ItemHeader) (e : itemCase r ≡ itemAt d true (x .delimited) (x .stop) at) where
-  pub item-refused : (f : Answer) → r ≡ header.Refused f → itemInCase (itemPlace.Refused f) ≡ itemIn d x at
+  pub item-refused : (number position : ℕ) (f : Answer) → r ≡ header.Refused number position → f ≡ faultAt number position → itemInCase (itemPlace.Refused f) ≡ itemIn d x at
   unfolding itemIn
-  item-refused f q = rw (← e, q)
+  item-refused number position f q g = rw (← e, q, g)
 
   pub item-ends : (next : ℕ) → r ≡ header.End next → itemInCase (itemPlace.End next) ≡ itemIn d x at
   unfolding itemIn

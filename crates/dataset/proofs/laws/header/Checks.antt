@@ -9,7 +9,7 @@ use native.Mathlib.Omega.{arith}
 use lib.ListN.{length}
 use borrow.Author.Tests.{ltb-false, lt-ltb, le-ltb, eq-eqb, ne-eqb}
 use Rattle.slices.specs.If.{if_then_else_}
-use Rattle.dataset.specs.Header.{faultAt, ElementHeader, ItemHeader, outside, longAt, byForm, vrOnAt, valueBy, itemBy}
+use Rattle.dataset.specs.Header.{ElementHeader, ItemHeader, outside, longAt, byForm, vrOnAt, valueBy, itemBy}
 use Rattle.dataset.specs.Bytes.{num16, num32, tagAt, vrAt}
 use Rattle.dataset.specs.Vr.{formOf}
 use Rattle.dataset.proofs.laws.Bools.{neither}
@@ -89,7 +89,7 @@ unfolding vrOnAt byForm
 long-form d tag left stop at v f z e q s w = rw (← e, ← q, s) w
 
 pub no-form : (d : List ℕ) (tag left stop at v : ℕ) (f : Form) (z : ElementHeader) → v ≡ vrAt d at → f ≡ formOf v → f ≡ Neither
-    → z ≡ ElementHeader.refused (faultAt 5 at) → z ≡ vrOnAt d tag left stop at
+    → z ≡ ElementHeader.refused 5 at → z ≡ vrOnAt d tag left stop at
 unfolding vrOnAt byForm
 no-form d tag left stop at v f z e q s w = rw (← e, ← q, s) w
 

@@ -13,7 +13,7 @@ use Rattle.slices.specs.If.{if_then_else_}
 use Rattle.dataset.specs.Bytes.{num16, num32, tagAt}
 use Rattle.slices.specs.Lists.{OfBytes}
 use Rattle.dataset.specs.Vr.{formOf, OB, SQ}
-use Rattle.dataset.specs.Header.{faultAt, ElementHeader, ItemHeader, undefined, outside, endsAt, closedBy, badLength, tooDeep, undefinedBy, definedBy, valueBy, longAt, byForm, vrOnAt, elementAt, itemBy, itemAt}
+use Rattle.dataset.specs.Header.{ElementHeader, ItemHeader, undefined, outside, endsAt, closedBy, badLength, tooDeep, undefinedBy, definedBy, valueBy, longAt, byForm, vrOnAt, elementAt, itemBy, itemAt}
 use Rattle.dataset.specs.Tags.{itemTag, itemDelimitationItem, sequenceDelimitationItem}
 use Rattle.dataset.specs.Order.{Tagged, Sized, ValueAt, NestAt, HeaderExtent, EndsIn}
 use Rattle.dataset.specs.declared.vr.Form.{Form}
@@ -85,7 +85,7 @@ module _ {A : Type 0} (bad : A) (end : ℕ → A) (rest : A) (d : List ℕ) (del
 pub element-ends : (d : List ℕ) (delimited : Bool) (left stop at least next : ℕ) → stop ≤ length d → EndsIn d itemDelimitationItem delimited stop at next
     → ElementHeader.ends next ≡ elementAt d delimited left stop at least
 unfolding elementAt
-element-ends d delimited left stop at least next l h = ends (ElementHeader.refused (faultAt 2 at)) ElementHeader.ends _ d itemDelimitationItem stop at l delimited next h
+element-ends d delimited left stop at least next l h = ends (ElementHeader.refused 2 at) ElementHeader.ends _ d itemDelimitationItem stop at l delimited next h
 
 -- the checks up to the VR
 tag-passes : (d : List ℕ) (delimited : Bool) (left stop at least tag : ℕ) (z : ElementHeader) → OfBytes d → stop ≤ length d → at + 8 ≤ stop → Tagged d at tag
@@ -93,9 +93,9 @@ tag-passes : (d : List ℕ) (delimited : Bool) (left stop at least tag : ℕ) (z
 unfolding elementAt
 tag-passes d delimited left stop at least tag z b l h t o e =
     let s = t .stands in
-    goes-on (ElementHeader.refused (faultAt 2 at)) ElementHeader.ends _ d itemDelimitationItem stop at l delimited z h (no-delimiter d at b (t .group))
-    (skip (eqb (num16 d at) 0xFFFE) (ElementHeader.refused (faultAt 3 at)) _ z (ne-eqb (num16 d at) 0xFFFE (t .group))
-    (skip (ltb (tagAt d at) least) (ElementHeader.refused (faultAt 4 at)) _ z (le-ltb (tagAt d at) least (omega arith)) (rw (← s) e)))
+    goes-on (ElementHeader.refused 2 at) ElementHeader.ends _ d itemDelimitationItem stop at l delimited z h (no-delimiter d at b (t .group))
+    (skip (eqb (num16 d at) 0xFFFE) (ElementHeader.refused 3 at) _ z (ne-eqb (num16 d at) 0xFFFE (t .group))
+    (skip (ltb (tagAt d at) least) (ElementHeader.refused 4 at) _ z (le-ltb (tagAt d at) least (omega arith)) (rw (← s) e)))
 
 -- the checks from the VR to the length
 size-passes : (f : Form) (d : List ℕ) (tag vr left stop at start n : ℕ) (z : ElementHeader) → start ≤ stop → Sized f d at start n
@@ -105,8 +105,8 @@ size-passes Short d tag vr left stop at start n z h s e = let a = s .0 in let b 
 size-passes Long d tag vr left stop at start n z h s e =
     let a = s .0 in
     let b = s .2 in
-    skip (ltb (stop - at) 12) (ElementHeader.refused (faultAt 2 at)) _ z (le-ltb (stop - at) 12 (omega arith))
-    (skip (not (eqb (num16 d (at + 6)) 0)) (ElementHeader.refused (faultAt 6 at)) _ z (not-f (eqb (num16 d (at + 6)) 0) (eq-eqb (num16 d (at + 6)) 0 (s .1))) (rw (← a, b) e))
+    skip (ltb (stop - at) 12) (ElementHeader.refused 2 at) _ z (le-ltb (stop - at) 12 (omega arith))
+    (skip (not (eqb (num16 d (at + 6)) 0)) (ElementHeader.refused 6 at) _ z (not-f (eqb (num16 d (at + 6)) 0) (eq-eqb (num16 d (at + 6)) 0 (s .1))) (rw (← a, b) e))
 size-passes Neither d tag vr left stop at start n z h s e = absurd s
 
 -- 2.11g
@@ -123,10 +123,10 @@ module _ (tag left stop at start : ℕ) where
   unfolding valueBy definedBy tooDeep
   value-by vr n end q v w i =
       let z = ElementHeader.value tag vr start end in
-      skip (badLength vr n) (ElementHeader.refused (faultAt 7 at)) _ z (even-good vr n v)
-      (skip (eqb vr SQ && eqb left 0) (ElementHeader.refused (faultAt 8 at)) _ z (and-f (eqb vr SQ) (eqb left 0) (ne-eqb vr SQ q))
+      skip (badLength vr n) (ElementHeader.refused 7 at) _ z (even-good vr n v)
+      (skip (eqb vr SQ && eqb left 0) (ElementHeader.refused 8 at) _ z (and-f (eqb vr SQ) (eqb left 0) (ne-eqb vr SQ q))
       (skip (eqb n undefined) _ _ z (even-defined n v .0)
-      (skip (ltb (stop - start) n) (ElementHeader.refused (faultAt 2 at)) _ z (le-ltb (stop - start) n (omega arith))
+      (skip (ltb (stop - start) n) (ElementHeader.refused 2 at) _ z (le-ltb (stop - start) n (omega arith))
       (skip (eqb vr SQ) _ _ z (ne-eqb vr SQ q) (rw w)))))
 
   sequence-by : (n end : ℕ) (inner : Bool) → 0 < left → start ≤ stop → HeaderExtent n stop start end inner
@@ -135,25 +135,25 @@ module _ (tag left stop at start : ℕ) where
   sequence-by n end true o i h =
       let z = ElementHeader.sequence tag start end true in
       let e = h .1 in
-      skip (badLength SQ n) (ElementHeader.refused (faultAt 7 at)) _ z (if-true (eqb n undefined) _ _ false (eq-eqb n undefined (h .0)) refl)
-      (skip (eqb left 0) (ElementHeader.refused (faultAt 8 at)) _ z (ne-eqb left 0 λ x. omega arith)
+      skip (badLength SQ n) (ElementHeader.refused 7 at) _ z (if-true (eqb n undefined) _ _ false (eq-eqb n undefined (h .0)) refl)
+      (skip (eqb left 0) (ElementHeader.refused 8 at) _ z (ne-eqb left 0 λ x. omega arith)
       (took (eqb n undefined) _ _ z (eq-eqb n undefined (h .0)) (took true _ _ z refl (rw e))))
   sequence-by n end false o i h =
       let z = ElementHeader.sequence tag start end false in
       let e = h .1 in
       let u = h .2 in
-      skip (badLength SQ n) (ElementHeader.refused (faultAt 7 at)) _ z (even-good SQ n (h .0))
-      (skip (eqb left 0) (ElementHeader.refused (faultAt 8 at)) _ z (ne-eqb left 0 λ x. omega arith)
+      skip (badLength SQ n) (ElementHeader.refused 7 at) _ z (even-good SQ n (h .0))
+      (skip (eqb left 0) (ElementHeader.refused 8 at) _ z (ne-eqb left 0 λ x. omega arith)
       (skip (eqb n undefined) _ _ z (even-defined n (h .0) .0)
-      (skip (ltb (stop - start) n) (ElementHeader.refused (faultAt 2 at)) _ z (le-ltb (stop - start) n (omega arith))
+      (skip (ltb (stop - start) n) (ElementHeader.refused 2 at) _ z (le-ltb (stop - start) n (omega arith))
       (took true _ _ z refl (rw e)))))
 
   fragments-by : (n : ℕ) → n ≡ undefined → ElementHeader.fragments tag start ≡ valueBy tag OB left stop at start n
   unfolding valueBy undefinedBy tooDeep badLength
   fragments-by n u =
       let z = ElementHeader.fragments tag start in
-      skip (badLength OB n) (ElementHeader.refused (faultAt 7 at)) _ z (if-true (eqb n undefined) _ _ false (eq-eqb n undefined u) refl)
-      (skip false (ElementHeader.refused (faultAt 8 at)) _ z refl
+      skip (badLength OB n) (ElementHeader.refused 7 at) _ z (if-true (eqb n undefined) _ _ false (eq-eqb n undefined u) refl)
+      (skip false (ElementHeader.refused 8 at) _ z refl
       (took (eqb n undefined) _ _ z (eq-eqb n undefined u) (skip false _ _ z refl refl)))
 
 -- ---- what an element that fills its extent is answered
@@ -189,7 +189,7 @@ module _ (d : List ℕ) (b : OfBytes d) (delimited : Bool) (left stop at least t
 pub items-end : (d : List ℕ) (inSequence delimited : Bool) (stop at next : ℕ) → stop ≤ length d → EndsIn d sequenceDelimitationItem delimited stop at next
     → ItemHeader.ends next ≡ itemAt d inSequence delimited stop at
 unfolding itemAt
-items-end d inSequence delimited stop at next l h = ends (ItemHeader.refused (faultAt 2 at)) ItemHeader.ends _ d sequenceDelimitationItem stop at l delimited next h
+items-end d inSequence delimited stop at next l h = ends (ItemHeader.refused 2 at) ItemHeader.ends _ d sequenceDelimitationItem stop at l delimited next h
 
 item-by : (inSequence : Bool) (n stop at start end : ℕ) (inner : Bool) → (inner ≡ true → inSequence ≡ true) → start ≤ stop → HeaderExtent n stop start end inner
     → ItemHeader.item start end inner ≡ itemBy inSequence stop at start n
@@ -202,8 +202,8 @@ item-by inSequence n stop at start end false q i h =
     let e = h .1 in
     let u = h .2 in
     skip (eqb n undefined && inSequence) _ _ z (and-f (eqb n undefined) inSequence (even-defined n (h .0) .0))
-    (skip (eqb (n % 2) 1) (ItemHeader.refused (faultAt 7 at)) _ z (even-defined n (h .0) .1)
-    (skip (ltb (stop - start) n) (ItemHeader.refused (faultAt 2 at)) _ z (le-ltb (stop - start) n (omega arith)) (rw e)))
+    (skip (eqb (n % 2) 1) (ItemHeader.refused 7 at) _ z (even-defined n (h .0) .1)
+    (skip (ltb (stop - start) n) (ItemHeader.refused 2 at) _ z (le-ltb (stop - start) n (omega arith)) (rw e)))
 
 extent-starts : (n stop start end : ℕ) (inner : Bool) → HeaderExtent n stop start end inner → start ≤ end → start ≤ stop
 extent-starts n stop start end true h k = let e = h .1 in omega arith
@@ -216,6 +216,6 @@ unfolding itemAt
 item-stands d inSequence delimited stop at end inner l t k q h =
     let i = extent-starts (num32 d (at + 4)) stop (at + 8) end inner h k in
     let z = ItemHeader.item (at + 8) end inner in
-    goes-on (ItemHeader.refused (faultAt 2 at)) ItemHeader.ends _ d sequenceDelimitationItem stop at l delimited z i (λ e. omega (arith, t, e))
-    (skip (not (eqb (tagAt d at) itemTag)) (ItemHeader.refused (faultAt 3 at)) _ z (not-f (eqb (tagAt d at) itemTag) (eq-eqb (tagAt d at) itemTag t))
+    goes-on (ItemHeader.refused 2 at) ItemHeader.ends _ d sequenceDelimitationItem stop at l delimited z i (λ e. omega (arith, t, e))
+    (skip (not (eqb (tagAt d at) itemTag)) (ItemHeader.refused 3 at) _ z (not-f (eqb (tagAt d at) itemTag) (eq-eqb (tagAt d at) itemTag t))
     (item-by inSequence (num32 d (at + 4)) stop at (at + 8) end inner q i h))

@@ -12,24 +12,16 @@ use lib.Dec.{ltb, eqb}
 use Rattle.slices.specs.If.{if_then_else_}
 use Rattle.dataset.specs.Bytes.{num16, num32, tagAt, vrAt}
 use Rattle.dataset.specs.Vr.{formOf, oneOf, OB, SQ}
-use Rattle.answer.specs.declared.Answer.{Answer}
-use Rattle.answer.proofs.laws.Refusals.{position-kept}
-use Rattle.dataset.specs.Header.{faultAt, ElementHeader, ItemHeader, undefined, outside, badLength, tooDeep, undefinedBy, definedBy, valueBy, longAt, byForm, vrOnAt, itemBy, endsAt, closedBy, elementAt, itemAt}
+use Rattle.dataset.specs.Header.{ElementHeader, ItemHeader, undefined, outside, badLength, tooDeep, undefinedBy, definedBy, valueBy, longAt, byForm, vrOnAt, itemBy, endsAt, closedBy, elementAt, itemAt}
 use Rattle.dataset.specs.Tags.{itemTag, itemDelimitationItem, sequenceDelimitationItem}
 use Rattle.dataset.specs.Order.{Tagged, Sized, ValueAt, NestAt, HeaderExtent, EndsIn}
 use Rattle.dataset.specs.declared.vr.Form.{Form}
 use Rattle.dataset.specs.declared.vr.Form.the-variants.{Short, Long, Neither}
 use Rattle.dataset.proofs.laws.Bools.{choose, and-right, both, neither, not-false, not-true}
 
--- a fault that a header at `at` gives
-pub record RefusedAt (at : ℕ) (f : Answer) : Type 0 where
-  pub least : 2 ≤ f .number
-  pub most : f .number ≤ 8
-  pub place : f .position ≡ at
-  pub nothing : f .length ≡ 0
-
-refuses : (number at : ℕ) → 2 ≤ number → number ≤ 8 → RefusedAt at (faultAt number at)
-refuses number at h k = record { least = h; most = k; place = position-kept number at (omega arith); nothing = refl }
+-- a refusal that a header at `at` gives
+abbrev pub RefusedAt : (at number position : ℕ) → Type 0
+RefusedAt at number position = (2 ≤ number) × (number ≤ 8) × (position ≡ at)
 
 -- the end of an extent: filled exactly, or ended by a delimiter
 pub record EndAt (d : List ℕ) (delimiter : ℕ) (delimited : Bool) (stop at next : ℕ) : Type 0 where
@@ -49,7 +41,7 @@ pub record ItemSpan (d : List ℕ) (stop at start end : ℕ) (delimited : Bool) 
   pub extent : HeaderExtent (num32 d (at + 4)) stop start end delimited
 
 abbrev pub ElementFacts : List ℕ → (delimited : Bool) (left stop at least : ℕ) → ElementHeader → Type 0
-ElementFacts d delimited left stop at least (ElementHeader.refused a) = RefusedAt at a
+ElementFacts d delimited left stop at least (ElementHeader.refused number position) = RefusedAt at number position
 ElementFacts d delimited left stop at least (ElementHeader.ends next) = EndAt d itemDelimitationItem delimited stop at next
 ElementFacts d delimited left stop at least (ElementHeader.value tag vr start end) = (least ≤ tag) × ValueAt d stop at tag vr start end
 ElementFacts d delimited left stop at least (ElementHeader.sequence tag start end inner) =
@@ -59,7 +51,7 @@ ElementFacts d delimited left stop at least (ElementHeader.fragments tag start) 
     × (num32 d (at + 8) ≡ undefined)
 
 abbrev pub ItemFacts : List ℕ → (inSequence delimited : Bool) (stop at : ℕ) → ItemHeader → Type 0
-ItemFacts d inSequence delimited stop at (ItemHeader.refused a) = RefusedAt at a
+ItemFacts d inSequence delimited stop at (ItemHeader.refused number position) = RefusedAt at number position
 ItemFacts d inSequence delimited stop at (ItemHeader.ends next) = EndAt d sequenceDelimitationItem delimited stop at next
 ItemFacts d inSequence delimited stop at (ItemHeader.item start end inner) = ItemSpan d stop at start end inner × (inSequence ≡ false → inner ≡ false)
 
@@ -116,15 +108,15 @@ module _ (d : List ℕ) (delimited : Bool) (left stop at least : ℕ) (within : 
     value-facts : (len : ℕ) → Sized (formOf vr) d at start len → P (valueBy tag vr left stop at start len)
     unfolding valueBy undefinedBy definedBy P
     value-facts len s =
-        choose P (badLength vr len) (λ e. refuses 7 at (omega arith) (omega arith)) λ e1.
-        choose P (tooDeep vr left) (λ e. refuses 8 at (omega arith) (omega arith)) λ e2.
+        choose P (badLength vr len) (λ e. omega arith) λ e1.
+        choose P (tooDeep vr left) (λ e. omega arith) λ e2.
         choose P (eqb len undefined)
         (λ e. choose P (eqb vr SQ)
         (λ q. let x = eqb-true vr SQ q in
         (o, nest SQ len x sq-long s, h, omega arith, level vr left e2 q, within, (counted SQ len x sq-long s ∙ eqb-true len undefined e, refl)))
         λ q. let x = eqb-true vr OB (undefined-ob vr len e1 e q) in
         (o, nest OB len x ob-long s, within, counted OB len x ob-long s ∙ eqb-true len undefined e)) λ e3.
-        choose P (ltb (stop - start) len) (λ e. refuses 2 at (omega arith) (omega arith)) λ e4.
+        choose P (ltb (stop - start) len) (λ e. omega arith) λ e4.
         let fit = ltb-false (stop - start) len e4 in
         choose P (eqb vr SQ)
         (λ q. let x = eqb-true vr SQ q in (
@@ -152,9 +144,9 @@ module _ (d : List ℕ) (delimited : Bool) (left stop at least : ℕ) (within : 
   long-facts : (tag vr : ℕ) → Tagged d at tag → least ≤ tag → vr ≡ vrAt d at → formOf vr ≡ Long → P (longAt d tag vr left stop at)
   unfolding longAt P
   long-facts tag vr t o v f =
-      choose P (ltb (stop - at) 12) (λ e. refuses 2 at (omega arith) (omega arith)) λ e1.
+      choose P (ltb (stop - at) 12) (λ e. omega arith) λ e1.
       let m = ltb-false (stop - at) 12 e1 in
-      choose P (not (eqb (num16 d (at + 6)) 0)) (λ e. refuses 6 at (omega arith) (omega arith)) λ e2.
+      choose P (not (eqb (num16 d (at + 6)) 0)) (λ e. omega arith) λ e2.
       let z = eqb-true (num16 d (at + 6)) 0 (not-false (eqb (num16 d (at + 6)) 0) e2) in
       value-facts tag vr (at + 12) t o v (omega arith) (num32 d (at + 8)) (rw f (refl, z, refl))
 
@@ -200,14 +192,14 @@ pub element-facts : (d : List ℕ) (delimited : Bool) (left stop at least : ℕ)
 unfolding elementAt vrOnAt P
 element-facts d delimited left stop at least =
     let P = ElementFacts d delimited left stop at least in
-    choose P (outside d stop at) (λ e. refuses 2 at (omega arith) (omega arith)) λ e0.
+    choose P (outside d stop at) (λ e. omega arith) λ e0.
     let k = inside-of d stop at e0 in
     choose P (endsAt delimited stop at) (λ e. ends-facts d itemDelimitationItem delimited stop at e) λ e1.
-    choose P (ltb (stop - at) 8) (λ e. refuses 2 at (omega arith) (omega arith)) λ e2.
+    choose P (ltb (stop - at) 8) (λ e. omega arith) λ e2.
     let m = ltb-false (stop - at) 8 e2 in
     choose P (closedBy d itemDelimitationItem delimited at) (λ e. closed-facts d itemDelimitationItem delimited stop at m e) λ e3.
-    choose P (eqb (num16 d at) 0xFFFE) (λ e. refuses 3 at (omega arith) (omega arith)) λ e4.
-    choose P (ltb (tagAt d at) least) (λ e. refuses 4 at (omega arith) (omega arith)) λ e5.
+    choose P (eqb (num16 d at) 0xFFFE) (λ e. omega arith) λ e4.
+    choose P (ltb (tagAt d at) least) (λ e. omega arith) λ e5.
     form-facts d delimited left stop at least (k .0) (formOf (vrAt d at)) (tagAt d at) (vrAt d at) refl
     record { stands = refl; group = eqb-false (num16 d at) 0xFFFE e4 } (ltb-false (tagAt d at) least e5) refl m
 
@@ -222,8 +214,8 @@ item-by-facts d inSequence delimited stop at len c t h =
       record { tag = t; starts = refl; order = h; inside = omega arith; even = λ x. absurd (true≢false x); extent = (c ∙ eqb-true len undefined (u .0), refl) },
       λ x. absurd (true≢false (sym (u .1) ∙ x)),
     )) λ e1.
-    choose P (eqb (len % 2) 1) (λ e. refuses 7 at (omega arith) (omega arith)) λ e2.
-    choose P (ltb (stop - (at + 8)) len) (λ e. refuses 2 at (omega arith) (omega arith)) λ e3.
+    choose P (eqb (len % 2) 1) (λ e. omega arith) λ e2.
+    choose P (ltb (stop - (at + 8)) len) (λ e. omega arith) λ e3.
     let fit = ltb-false (stop - (at + 8)) len e3 in
     let n : at + 8 + len - (at + 8) ≡ len = omega arith in
     let v = not-one len (eqb-false (len % 2) 1 e2) in (
@@ -235,11 +227,11 @@ pub item-facts : (d : List ℕ) (inSequence delimited : Bool) (stop at : ℕ) �
 unfolding itemAt
 item-facts d inSequence delimited stop at =
     let P = ItemFacts d inSequence delimited stop at in
-    choose P (outside d stop at) (λ e. refuses 2 at (omega arith) (omega arith)) λ e0.
+    choose P (outside d stop at) (λ e. omega arith) λ e0.
     let k = inside-of d stop at e0 in
     choose P (endsAt delimited stop at) (λ e. ends-facts d sequenceDelimitationItem delimited stop at e) λ e1.
-    choose P (ltb (stop - at) 8) (λ e. refuses 2 at (omega arith) (omega arith)) λ e2.
+    choose P (ltb (stop - at) 8) (λ e. omega arith) λ e2.
     let m = ltb-false (stop - at) 8 e2 in
     choose P (closedBy d sequenceDelimitationItem delimited at) (λ e. closed-facts d sequenceDelimitationItem delimited stop at m e) λ e3.
-    choose P (not (eqb (tagAt d at) itemTag)) (λ e. refuses 3 at (omega arith) (omega arith)) λ e4.
+    choose P (not (eqb (tagAt d at) itemTag)) (λ e. omega arith) λ e4.
     item-by-facts d inSequence delimited stop at _ refl (eqb-true (tagAt d at) itemTag (not-false (eqb (tagAt d at) itemTag) e4)) (omega arith)

@@ -78,7 +78,7 @@ module _ (left : ℕ) (h : levels ≤ left) where
       → ((inner : Bool) (end i : ℕ) → elements inner end i ≡ elements′ inner end i) → ((i : ℕ) → items i ≡ items′ i)
       → byItem elements items at p ≡ byItem elements′ items′ at p
   unfolding byItem
-  item-rest elements elements′ items items′ at (ItemHeader.refused a) e g = refl
+  item-rest elements elements′ items items′ at (ItemHeader.refused number position) e g = refl
   item-rest elements elements′ items items′ at (ItemHeader.ends next) e g = refl
   item-rest elements elements′ items items′ at (ItemHeader.item start end inner) e g =
       rw (e inner end start) (then-rest (elements′ inner end start) items items′ at g)

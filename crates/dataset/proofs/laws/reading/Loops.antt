@@ -11,7 +11,7 @@ use borrow.Author.Tests.{ltb-true, ltb-false, lt-ltb, le-ltb, ne-eqb}
 use Rattle.answer.specs.declared.Answer.{Answer}
 use Rattle.answer.specs.Answer as answer
 use Rattle.slices.specs.If.{if_then_else_}
-use Rattle.dataset.specs.Header.{itemCase, itemAt}
+use Rattle.dataset.specs.Header.{faultAt, itemCase, itemAt}
 use Rattle.dataset.specs.Tree.{Element}
 use Rattle.dataset.specs.Reading.{Reading, fault, read, _>>=_, One, ended, element, explicit, byOne, byItem, byFragment, fragmentsAt, elementsAt, itemsAt, oneAt, sizeLimit, sizeAnswer, unlessRefused, levels, deeper, dataSet, answerOf, handedOn, oneCase}
 use Rattle.dataset.specs.Inner.Outcomes.{outcomeOf, oneOutcomeOf}
@@ -53,10 +53,10 @@ module _ (d : List ℕ) (stop at : ℕ) (r : ItemHeader) (e : itemCase r ≡ ite
     fragments-at : (p : ItemHeader) → r ≡ p → fragmentsAt explicit d left stop at ≡ byFragment (fragmentsAt explicit d left stop) (itemCase p)
     fragments-at p q = rw (fragments-are explicit explicit-bounded d left stop at h, sym e ∙ ap itemCase q)
 
-    pub fragments-refused : (f : Answer) (R : Outcome) → r ≡ place.Refused f
+    pub fragments-refused : (number position : ℕ) (f : Answer) (R : Outcome) → r ≡ place.Refused number position → f ≡ faultAt number position
         → R ≡ outcomeOf (fragmentsAt explicit d left stop at) → outcome.Refused f ≡ R
     unfolding byFragment
-    fragments-refused f R q i = sym (i ∙ ap outcomeOf (fragments-at (place.Refused f) q))
+    fragments-refused number position f R q g i = ap outcome.Refused g ∙ sym (i ∙ ap outcomeOf (fragments-at (place.Refused number position) q))
 
     pub fragments-end : (next : ℕ) (R : Outcome) → r ≡ place.End next → R ≡ outcomeOf (fragmentsAt explicit d left stop at) → outcome.Next next ≡ R
     unfolding byFragment
@@ -116,10 +116,10 @@ module _ (d : List ℕ) (delimited : Bool) (stop at : ℕ) (r : ItemHeader) (e :
         ≡ byItem (λ inner end start. elementsAt explicit d inner (deeper left) end start 0) (itemsAt explicit d delimited left stop) at (itemCase p)
     items-at p q = rw (items-are explicit explicit-bounded d delimited left stop at h, sym e ∙ ap itemCase q)
 
-    pub items-refused : (f : Answer) (R : Outcome) → r ≡ place.Refused f
+    pub items-refused : (number position : ℕ) (f : Answer) (R : Outcome) → r ≡ place.Refused number position → f ≡ faultAt number position
         → R ≡ outcomeOf (itemsAt explicit d delimited left stop at) → outcome.Refused f ≡ R
     unfolding byItem
-    items-refused f R q i = sym (i ∙ ap outcomeOf (items-at (place.Refused f) q))
+    items-refused number position f R q g i = ap outcome.Refused g ∙ sym (i ∙ ap outcomeOf (items-at (place.Refused number position) q))
 
     pub items-end : (next : ℕ) (R : Outcome) → r ≡ place.End next → R ≡ outcomeOf (itemsAt explicit d delimited left stop at) → outcome.Next next ≡ R
     unfolding byItem

@@ -9,7 +9,7 @@ use lib.ListN.{length}
 use Rattle.answer.specs.declared.Answer.{Answer}
 use Rattle.slices.specs.If.{if_then_else_}
 use Rattle.dataset.specs.Vr.{OB, SQ}
-use Rattle.dataset.specs.Header.{elementCase, elementAt}
+use Rattle.dataset.specs.Header.{faultAt, elementCase, elementAt}
 use Rattle.dataset.specs.Header as spec
 use Rattle.dataset.specs.Tree.{Element}
 use Rattle.dataset.specs.Reading.{Reading, fault, read, _>>=_, One, explicit, byHeader, fragmentsAt, itemsAt, oneAt, handedOn, oneCase}
@@ -71,10 +71,11 @@ module _ (d : List ℕ) (delimited : Bool) (left stop at least : ℕ) (r : Eleme
   answers : (z : OneOutcome) → z ≡ oneOutcomeOf (oneAt explicit d delimited left stop at least) → oneCase z ≡ handedOn (oneAt explicit d delimited left stop at least)
   answers z = handed-on (oneAt explicit d delimited left stop at least) z
 
-  pub one-refused : (f : Answer) → r ≡ header.Refused f
+  pub one-refused : (number position : ℕ) (f : Answer) → r ≡ header.Refused number position → f ≡ faultAt number position
       → oneCase (one.Refused f) ≡ handedOn (oneAt explicit d delimited left stop at least)
   unfolding byHeader
-  one-refused f q = answers (one.Refused f) (sym (ap oneOutcomeOf (one-is (header.Refused f) q)))
+  one-refused number position f q g =
+      answers (one.Refused f) (ap one.Refused g ∙ sym (ap oneOutcomeOf (one-is (header.Refused number position) q)))
 
   pub one-end : (next : ℕ) → r ≡ header.End next → oneCase (one.End next) ≡ handedOn (oneAt explicit d delimited left stop at least)
   unfolding byHeader

@@ -1,13 +1,14 @@
 -- What is read in an extent stays in it: its faults lie there, and what follows it is at most at the end. For any headers that stay in
 -- their extents. Assumes nothing.
 use Prim.Native.Nat.{ℕ, zero, suc, _-_, _≤_, _<_, _+_}
-use mathlib.Core.Path.{_≡_}
+use mathlib.Core.Path.{_≡_, refl}
 use mathlib.Core.Bool.{Bool, true, false}
 use mathlib.Core.List.{List}
 use native.Mathlib.Omega.{arith}
 use Rattle.answer.specs.declared.Answer.{Answer}
 use Rattle.answer.specs.Answer.{refused}
-use Rattle.dataset.specs.Header.{ElementHeader, ItemHeader}
+use Rattle.answer.proofs.laws.Refusals.{position-kept}
+use Rattle.dataset.specs.Header.{faultAt, ElementHeader, ItemHeader}
 use Rattle.dataset.specs.Tree.{Span, Elements, Items, tagOf}
 use Rattle.dataset.specs.Reading.{Reading, fault, read, _>>=_, One, ended, element, Headers, byHeader, byOne, byItem, byFragment, fragmentsBy, elementsBy, itemsBy, fragmentsAt, itemsAt, oneAt, deeper}
 use Rattle.dataset.proofs.laws.header.HeaderFacts.{RefusedAt}
@@ -48,8 +49,10 @@ then-one lo hi lo′ hi′ (read a n) k l u w g = g a n (w .0) (w .1)
 -- ---- one step, by what stands there
 module _ (stop at : ℕ) (z : at ≤ stop) where
   -- a refusal of a header in the extent lies in it
-  refuses : (f : Answer) → RefusedAt at f → FaultIn at stop f
-  refuses f h = record { least = h .least; most = h .most; order = omega (arith, h .place); inside = omega (arith, h .place); nothing = h .nothing }
+  refuses : (number position : ℕ) → RefusedAt at number position → FaultIn at stop (faultAt number position)
+  refuses number position h =
+      let p = position-kept number position (omega (arith, h .0)) in
+      record { least = h .0; most = h .1; order = omega (arith, h .2, p); inside = omega (arith, h .2, p); nothing = refl }
 
   abbrev Parts : (ℕ → Reading (List Span)) → Type 0
   Parts parts = (i : ℕ) → at < i → i ≤ stop → Within i stop (parts i)
@@ -59,7 +62,7 @@ module _ (stop at : ℕ) (z : at ≤ stop) where
 
   fragment-within : (parts : ℕ → Reading (List Span)) (p : ItemHeader) → ItemHeaderIn stop at p → Parts parts → Within at stop (byFragment parts p)
   unfolding byFragment
-  fragment-within parts (ItemHeader.refused a) h f = refuses a h
+  fragment-within parts (ItemHeader.refused number position) h f = refuses number position h
   fragment-within parts (ItemHeader.ends next) h f = h
   fragment-within parts (ItemHeader.item start end delimited) h f =
       then-within end stop at stop (parts end) _ (omega arith) (omega arith) (f end (omega arith) (h .2)) λ a n l u. omega arith
@@ -67,7 +70,7 @@ module _ (stop at : ℕ) (z : at ≤ stop) where
   pub header-within : (items : Bool → ℕ → ℕ → Reading Items) (parts : ℕ → Reading (List Span)) (p : ElementHeader) → ElementHeaderIn stop at p
       → Inner items → Parts parts → OneIn at stop (byHeader items parts at p)
   unfolding byHeader
-  header-within items parts (ElementHeader.refused a) h f g = refuses a h
+  header-within items parts (ElementHeader.refused number position) h f g = refuses number position h
   header-within items parts (ElementHeader.ends next) h f g = h
   header-within items parts (ElementHeader.value tag vr start end) h f g = h
   header-within items parts (ElementHeader.sequence tag start end delimited) h f g =
@@ -86,7 +89,7 @@ module _ (stop at : ℕ) (z : at ≤ stop) where
   item-within : (elements : Bool → ℕ → ℕ → Reading Elements) (items : ℕ → Reading Items) (p : ItemHeader) → ItemHeaderIn stop at p
       → Inner elements → ((i : ℕ) → at < i → i ≤ stop → Within i stop (items i)) → Within at stop (byItem elements items at p)
   unfolding byItem
-  item-within elements items (ItemHeader.refused a) h f g = refuses a h
+  item-within elements items (ItemHeader.refused number position) h f g = refuses number position h
   item-within elements items (ItemHeader.ends next) h f g = h
   item-within elements items (ItemHeader.item start end delimited) h f g =
       then-within start end at stop (elements delimited end start) _ (omega arith) (omega arith) (f delimited end start (h .0) (h .1) (h .2)) λ a n l u.

@@ -81,7 +81,7 @@ module _ (d : List ℕ) (x : Extent) (at least : ℕ) (inside : x .stop ≤ leng
       → byHeader (λ inner. itemsAt explicit d inner (x .left)) (fragmentsAt explicit d (x .left) (x .stop)) at h ≡ read (element e) next
       → ElementPlaced d e (placeBy x (vrOf e) (spanOf e .start) (spanOf e .end) next)
   unfolding byHeader
-  by-header e next (ElementHeader.refused a) f q = absurd (true≢false (cc))
+  by-header e next (ElementHeader.refused number position) f q = absurd (true≢false (cc))
   by-header e next (ElementHeader.ends n) f q = absurd (true≢false (cc))
   by-header e next (ElementHeader.value tag vr start end) f q =
       let k : Element.value at tag vr (span start end) ≡ e = cc in

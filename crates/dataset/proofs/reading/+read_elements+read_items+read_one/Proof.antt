@@ -1,5 +1,5 @@
 -- The cycle of calls. Levels fall: 3 left + 2 for the reader of elements, 3 left + 1 for that of one element, 3 left for that of items.
--- Each place is a law of Loops or OneElement, which `search` applies to the facts there. Assumes nothing.
+-- Each place is a law of proofs/Steps.antt or proofs/OneSteps.antt, which `search` applies to the facts there. Assumes nothing.
 use borrow.Author.Needs.{needs}
 use Prim.Native.Nat.{ℕ, _+_, _-_, _*_, _<_}
 use mathlib.Core.Path.{refl}
@@ -16,6 +16,7 @@ use Rattle.dataset.proofs.reading.+read_elements+read_items+read_one.Lt
 use Rattle.dataset.proofs.reading.read_one.Reads as read-one
 use Rattle.dataset.proofs.reading.read_one.Kinds as read-one-kinds
 use Rattle.dataset.proofs.reading.+read_elements+read_items+read_one.Lts-read_one as read-one-lts
+use Rattle.dataset.proofs.header.fault.Reads as fault-reads
 use Rattle.dataset.proofs.reading.deeper.Reads as deeper-reads
 use Rattle.dataset.proofs.header.header.Reads as header-reads
 use Rattle.dataset.proofs.header.item_header.Reads as item-header-reads
@@ -67,11 +68,11 @@ read-elements-claims t =
 
 abbrev read-items-claims : ℕ → read-items-lts.Claims
 read-items-claims t =
-    (item-header-reads.Asked, item-header-reads.Learnt, deeper-reads.Asked, deeper-reads.Learnt, read-elements-below t, read-elements.Post)
+    (item-header-reads.Asked, item-header-reads.Learnt, fault-reads.Asked, fault-reads.Learnt, deeper-reads.Asked, deeper-reads.Learnt, read-elements-below t, read-elements.Post)
 
 abbrev read-one-claims : ℕ → read-one-lts.Claims
 read-one-claims t =
-    (header-reads.Asked, header-reads.Learnt, read-items-below t, read-items.Post, holding-reads.Asked, holding-reads.Learnt, read-fragments-reads.Asked, read-fragments-reads.Learnt)
+    (header-reads.Asked, header-reads.Learnt, fault-reads.Asked, fault-reads.Learnt, read-items-below t, read-items.Post, holding-reads.Asked, holding-reads.Learnt, read-fragments-reads.Asked, read-fragments-reads.Learnt)
 
 abbrev read-elements-Inv-loop : read-elements-lts.InvT-loop
 read-elements-Inv-loop d delimited left stop from at₀ least₀ at least = steps.ElementsLoop d delimited left stop from at least
@@ -124,8 +125,11 @@ read-items-loop-holds t c = record { inside = search needs; same = refl }
 read-items-item-header-requires : (t : ℕ) → read-items-lts.Need-item-header-requires (read-items-claims t) (read-items-at t) read-items.Post read-items-Inv-loop read-items-μ-loop
 read-items-item-header-requires t c κs = search needs
 
-read-items-enum-known-fault : (t : ℕ) → read-items-lts.Need-enum-known-fault (read-items-claims t) (read-items-at t) read-items.Post read-items-Inv-loop read-items-μ-loop
-read-items-enum-known-fault t c = search needs
+read-items-enum-known-number : (t : ℕ) → read-items-lts.Need-enum-known-number (read-items-claims t) (read-items-at t) read-items.Post read-items-Inv-loop read-items-μ-loop
+read-items-enum-known-number t c = search needs
+
+read-items-fault-requires : (t : ℕ) → read-items-lts.Need-fault-requires (read-items-claims t) (read-items-at t) read-items.Post read-items-Inv-loop read-items-μ-loop
+read-items-fault-requires t c κs = search needs
 
 read-items-returns : (t : ℕ) → read-items-lts.Need-returns (read-items-claims t) (read-items-at t) read-items.Post read-items-Inv-loop read-items-μ-loop
 read-items-returns t c = search steps.items-refused
@@ -145,8 +149,8 @@ read-items-deeper-requires t c κs = search needs
 read-items-read-elements-requires : (t : ℕ) → read-items-lts.Need-read-elements-requires (read-items-claims t) (read-items-at t) read-items.Post read-items-Inv-loop read-items-μ-loop
 read-items-read-elements-requires t c κs = search (steps.elements-fall, steps.item-order, steps.item-inside, needs)
 
-read-items-enum-known-fault-2 : (t : ℕ) → read-items-lts.Need-enum-known-fault-2 (read-items-claims t) (read-items-at t) read-items.Post read-items-Inv-loop read-items-μ-loop
-read-items-enum-known-fault-2 t c = search needs
+read-items-enum-known-fault : (t : ℕ) → read-items-lts.Need-enum-known-fault (read-items-claims t) (read-items-at t) read-items.Post read-items-Inv-loop read-items-μ-loop
+read-items-enum-known-fault t c = search needs
 
 read-items-returns-3 : (t : ℕ) → read-items-lts.Need-returns-3 (read-items-claims t) (read-items-at t) read-items.Post read-items-Inv-loop read-items-μ-loop
 read-items-returns-3 t c = search steps.item-refused
@@ -163,8 +167,11 @@ read-items-loop-again t c = search steps.item-again
 read-one-header-requires : (t : ℕ) → read-one-lts.Need-header-requires (read-one-claims t) (read-one-at t) read-one.Post
 read-one-header-requires t c κs = search needs
 
-read-one-enum-known-fault : (t : ℕ) → read-one-lts.Need-enum-known-fault (read-one-claims t) (read-one-at t) read-one.Post
-read-one-enum-known-fault t c = search needs
+read-one-enum-known-number : (t : ℕ) → read-one-lts.Need-enum-known-number (read-one-claims t) (read-one-at t) read-one.Post
+read-one-enum-known-number t c = search needs
+
+read-one-fault-requires : (t : ℕ) → read-one-lts.Need-fault-requires (read-one-claims t) (read-one-at t) read-one.Post
+read-one-fault-requires t c κs = search needs
 
 read-one-enum-known-next : (t : ℕ) → read-one-lts.Need-enum-known-next (read-one-claims t) (read-one-at t) read-one.Post
 read-one-enum-known-next t c = search needs
@@ -230,14 +237,15 @@ pub +read-elements+read-items+read-one-spec : {M : Type 1} → statement M
     read-items-μ-loop
     (read-items-loop-holds t)
     (read-items-item-header-requires t)
-    (read-items-enum-known-fault t)
+    (read-items-enum-known-number t)
+    (read-items-fault-requires t)
     (read-items-returns t)
     (read-items-enum-known-next t)
     (read-items-returns-2 t)
     (read-items-enum-known-start t)
     (read-items-deeper-requires t)
     (read-items-read-elements-requires t)
-    (read-items-enum-known-fault-2 t)
+    (read-items-enum-known-fault t)
     (read-items-returns-3 t)
     (read-items-enum-known-next-2 t)
     (read-items-loop-less t)
@@ -246,7 +254,8 @@ pub +read-elements+read-items+read-one-spec : {M : Type 1} → statement M
     (read-one-at t)
     read-one.Post
     (read-one-header-requires t)
-    (read-one-enum-known-fault t)
+    (read-one-enum-known-number t)
+    (read-one-fault-requires t)
     (read-one-enum-known-next t)
     (read-one-enum-known-tag t)
     (read-one-enum-known-tag-2 t)

@@ -1,4 +1,4 @@
--- `read_fragments` meets its contract: the invariant is `FragmentsLoop`, and each turn is a law of Loops. Assumes nothing.
+-- `read_fragments` meets its contract: the invariant is `FragmentsLoop`, and each turn is a law of proofs/Steps.antt. Assumes nothing.
 use borrow.Author.Needs.{needs}
 use Prim.Native.Nat.{_-_}
 use mathlib.Core.Path.{refl}
@@ -18,8 +18,11 @@ loop-holds c = record { inside = search needs; same = refl }
 item-header-requires : tie.Need-item-header-requires Inv-loop μ-loop
 item-header-requires c κs = search needs
 
-enum-known-fault : tie.Need-enum-known-fault Inv-loop μ-loop
-enum-known-fault c = search needs
+enum-known-number : tie.Need-enum-known-number Inv-loop μ-loop
+enum-known-number c = search needs
+
+fault-requires : tie.Need-fault-requires Inv-loop μ-loop
+fault-requires c κs = search needs
 
 returns : tie.Need-returns Inv-loop μ-loop
 returns c = search steps.fragments-refused
@@ -47,7 +50,8 @@ read-fragments-spec =
     μ-loop
     loop-holds
     item-header-requires
-    enum-known-fault
+    enum-known-number
+    fault-requires
     returns
     enum-known-next
     returns-2

@@ -10,9 +10,9 @@ use lib.ListN.{length}
 use lib.Seq.{sets}
 use Rattle.answer.specs.declared.Answer.{Answer}
 use Rattle.slices.specs.Lists.{between}
-use Rattle.dataset.specs.Header.{itemCase, itemAt}
+use Rattle.dataset.specs.Header.{faultAt, itemCase, itemAt}
 use Rattle.dataset.specs.Tree.{Span, span}
-use Rattle.dataset.specs.Reading.{explicit, byFragment, fragmentsAt}
+use Rattle.dataset.specs.Reading.{fault, explicit, byFragment, fragmentsAt}
 use Rattle.dataset.specs.declared.header.ItemHeader.{ItemHeader}
 use Rattle.dataset.specs.declared.header.ItemHeader.the-variants as place
 use Rattle.dataset.proofs.laws.header.HeaderFacts.{ItemFacts, item-facts}
@@ -52,12 +52,12 @@ module _ (d : List ℕ) (left stop from : ℕ) (xs₀ : List ℕ) (to₀ : ℕ) 
   fragments-at : (p : ItemHeader) → r ≡ p → fragmentsAt explicit d left stop at ≡ byFragment (fragmentsAt explicit d left stop) (itemCase p)
   fragments-at p q = rw (fragments-are explicit explicit-bounded d left stop at (i .inside), sym e ∙ ap itemCase q)
 
-  pub fragments-refused : (f : Answer) (ys : List ℕ) → r ≡ place.Refused f
+  pub fragments-refused : (number position : ℕ) (f : Answer) (ys : List ℕ) → r ≡ place.Refused number position → f ≡ faultAt number position
       → Walk (walked holdsNone fragmentsStream) fragmentsStream (fragmentsAt explicit d left stop from) d to₀ (written.Refused f) xs₀ ys
   unfolding byFragment
-  fragments-refused f ys q =
+  fragments-refused number position f ys q g =
       stop-at holdsNone fragmentsStream d (fragmentsAt explicit d left stop from) to₀ xs₀ (fragmentsAt explicit d left stop at) false to xs (i .going) f ys
-      (fragments-at (place.Refused f) q)
+      (fragments-at (place.Refused number position) q ∙ ap fault (sym g))
 
   pub fragments-end : (next : ℕ) (ys : List ℕ) → r ≡ place.End next → ys ≡ sets xs to sequenceDelimiterBytes
       → Walk (walked holdsNone fragmentsStream) fragmentsStream (fragmentsAt explicit d left stop from) d to₀ (written.Past false next (to + 4)) xs₀ ys

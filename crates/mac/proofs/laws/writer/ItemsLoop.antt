@@ -7,7 +7,7 @@ use native.Mathlib.Omega.{arith}
 use lib.ListN.{length}
 use lib.Seq.{sets}
 use Rattle.answer.specs.declared.Answer.{Answer}
-use Rattle.dataset.specs.Header.{itemCase, itemAt}
+use Rattle.dataset.specs.Header.{faultAt, itemCase, itemAt}
 use Rattle.dataset.specs.Tree.{Elements, last, item}
 use Rattle.dataset.specs.Reading.{Reading, fault, read, _>>=_, explicit, byItem, elementsAt, itemsAt, deeper}
 use Rattle.dataset.specs.declared.header.ItemHeader.{ItemHeader}
@@ -73,12 +73,12 @@ module _ (d : List ℕ) (delimited : Bool) (left stop from : ℕ) (xs₀ : List 
       ≡ byItem (λ inner end start. elementsAt explicit d inner (deeper left) end start 0) (itemsAt explicit d delimited left stop) at (itemCase p)
   items-at p q = rw (items-are explicit explicit-bounded d delimited left stop at (i .inside), sym e ∙ ap itemCase q)
 
-  pub items-refused : (f : Answer) (ys : List ℕ) → r ≡ place.Refused f
+  pub items-refused : (number position : ℕ) (f : Answer) (ys : List ℕ) → r ≡ place.Refused number position → f ≡ faultAt number position
       → Walk (walked itemsHoldUN itemsStream) itemsStream (itemsAt explicit d delimited left stop from) d to₀ (written.Refused f) xs₀ ys
   unfolding byItem
-  items-refused f ys q =
+  items-refused number position f ys q g =
       stop-at itemsHoldUN itemsStream d (itemsAt explicit d delimited left stop from) to₀ xs₀ (itemsAt explicit d delimited left stop at) found to xs (i .going) f ys
-      (items-at (place.Refused f) q)
+      (items-at (place.Refused number position) q ∙ ap fault (sym g))
 
   pub items-end : (next : ℕ) (ys : List ℕ) → r ≡ place.End next → ys ≡ sets xs to sequenceDelimiterBytes
       → Walk (walked itemsHoldUN itemsStream) itemsStream (itemsAt explicit d delimited left stop from) d to₀ (written.Past found next (to + 4)) xs₀ ys

@@ -14,7 +14,7 @@ use Rattle.answer.specs.Answer.{refused}
 use Rattle.slices.specs.If.{if_then_else_}
 use Rattle.slices.specs.Lists.{between}
 use Rattle.dataset.specs.Vr.{UN}
-use Rattle.dataset.specs.Header.{elementCase, elementAt}
+use Rattle.dataset.specs.Header.{faultAt, elementCase, elementAt}
 use Rattle.dataset.specs.Header as spec
 use Rattle.dataset.specs.Tree.{Span, span, Element, value, sequence, fragments, Items, tagOf}
 use Rattle.dataset.specs.Reading.{Reading, fault, read, _>>=_, One, ended, element, explicit, byHeader, itemsAt, fragmentsAt, oneAt}
@@ -59,10 +59,10 @@ module _ (d : List ℕ) (left stop at : ℕ) (h : ElementHeader) where
   unfolding byHeaderAt
   by p q = rw q
 
-  pub element-refused : (to : ℕ) (f : Answer) (xs ys : List ℕ) → h ≡ header.Refused f
+  pub element-refused : (to number position : ℕ) (f : Answer) (xs ys : List ℕ) → h ≡ header.Refused number position → f ≡ faultAt number position
       → Walk (oneWalked every) (oneStream every) (byHeaderAt d left stop at (elementCase h)) d to (one.Refused f) xs ys
   unfolding byHeader oneWalked Leaves
-  element-refused to f xs ys q = rw (by (header.Refused f) q) record { answers = refl; output = tt }
+  element-refused to number position f xs ys q g = rw (by (header.Refused number position) q, g) record { answers = refl; output = tt }
 
   pub element-end : (to next : ℕ) (xs : List ℕ) → h ≡ header.End next → Walk (oneWalked every) (oneStream every) (byHeaderAt d left stop at (elementCase h)) d to (one.End next) xs xs
   unfolding byHeader oneWalked oneStream Leaves
@@ -166,7 +166,7 @@ inside-tag tag (read a i) k make m t e n q =
 header-keeps : (c : Keep) (items : Bool → ℕ → ℕ → Reading Items) (parts : ℕ → Reading (List Span)) (at : ℕ) (h : spec.ElementHeader) (e : Element) (n : ℕ)
     → byHeader items parts at h ≡ read (element e) n → keeps c (tagOf e) ≡ keepsHeader c h
 unfolding byHeader
-header-keeps c items parts at (spec.ElementHeader.refused a) e n q = absurd (true≢false (cc))
+header-keeps c items parts at (spec.ElementHeader.refused number position) e n q = absurd (true≢false (cc))
 header-keeps c items parts at (spec.ElementHeader.ends next) e n q = absurd (true≢false (cc))
 header-keeps c items parts at (spec.ElementHeader.value tag vr start end) e n q =
     let x : value at tag vr (span start end) ≡ e = cc in

@@ -1,5 +1,5 @@
 -- The cycle of calls. Levels fall: 4 left + 3 for the walk over elements, 4 left + 2 and 4 left + 1 for that over one element, 4 left for that over items.
--- Each place is a law of OneElement, ElementsLoop, BarredLoop or ItemsLoop, which `search` applies to the facts there. Assumes nothing.
+-- Each place is a law of ElementSteps, ElementsLoop, ElementsSteps or ItemsSteps, which `search` applies to the facts there. Assumes nothing.
 use Rattle.mac.proofs.laws.writer.OneElement as element
 use Rattle.mac.proofs.laws.writer.ElementsLoop as loop
 use Rattle.mac.proofs.laws.writer.BarredLoop as elements
@@ -20,6 +20,7 @@ use Rattle.mac.proofs.writer.+write_element+write_elements+write_items+
 use Rattle.mac.proofs.writer.write_one.Reads as write-one
 use Rattle.mac.proofs.writer.write_one.Kinds as write-one-kinds
 use Rattle.mac.proofs.writer.+write_element+write_elements+write_items+write_one.Lts-write_one as write-one-lts
+use Rattle.dataset.proofs.header.fault.Reads as fault-reads
 use Rattle.dataset.proofs.reading.deeper.Reads as deeper-reads
 use Rattle.dataset.proofs.header.header.Reads as header-reads
 use Rattle.dataset.proofs.header.item_header.Reads as item-header-reads
@@ -92,7 +93,7 @@ write-one-below t =
 -- what each function of the cycle asks of the functions that it calls, and learns from them
 abbrev write-element-claims : ℕ → write-element-lts.Claims
 write-element-claims t =
-    (copy-reads.Asked, copy-reads.Learnt, value-written-reads.Asked, value-written-reads.Learnt, write-items-below t, write-items.Post, nested-written-reads.Asked, nested-written-reads.Learnt, write-fragments-reads.Asked, write-fragments-reads.Learnt)
+    (fault-reads.Asked, fault-reads.Learnt, copy-reads.Asked, copy-reads.Learnt, value-written-reads.Asked, value-written-reads.Learnt, write-items-below t, write-items.Post, nested-written-reads.Asked, nested-written-reads.Learnt, write-fragments-reads.Asked, write-fragments-reads.Learnt)
 
 abbrev write-elements-claims : ℕ → write-elements-lts.Claims
 write-elements-claims t =
@@ -100,7 +101,7 @@ write-elements-claims t =
 
 abbrev write-items-claims : ℕ → write-items-lts.Claims
 write-items-claims t =
-    (item-header-reads.Asked, item-header-reads.Learnt, put-sequence-delimiter-reads.Asked, put-sequence-delimiter-reads.Learnt, put-item-tag-reads.Asked, put-item-tag-reads.Learnt, deeper-reads.Asked, deeper-reads.Learnt, write-elements-below t, write-elements.Post)
+    (item-header-reads.Asked, item-header-reads.Learnt, fault-reads.Asked, fault-reads.Learnt, put-sequence-delimiter-reads.Asked, put-sequence-delimiter-reads.Learnt, put-item-tag-reads.Asked, put-item-tag-reads.Learnt, deeper-reads.Asked, deeper-reads.Learnt, write-elements-below t, write-elements.Post)
 
 abbrev write-one-claims : ℕ → write-one-lts.Claims
 write-one-claims t =
@@ -108,6 +109,9 @@ write-one-claims t =
 
 write-element-enum-known-h : (t : ℕ) → write-element-lts.Need-enum-known-h (write-element-claims t) (write-element-at t) write-element.Post
 write-element-enum-known-h t c = search needs
+
+write-element-fault-requires : (t : ℕ) → write-element-lts.Need-fault-requires (write-element-claims t) (write-element-at t) write-element.Post
+write-element-fault-requires t c κs = search needs
 
 write-element-enum-known-h-2 : (t : ℕ) → write-element-lts.Need-enum-known-h-2 (write-element-claims t) (write-element-at t) write-element.Post
 write-element-enum-known-h-2 t c = search needs
@@ -244,11 +248,14 @@ write-items-loop-holds t c = search items.items-start
 write-items-item-header-requires : (t : ℕ) → write-items-lts.Need-item-header-requires (write-items-claims t) (write-items-at t) write-items.Post write-items-Inv-loop write-items-μ-loop
 write-items-item-header-requires t c κs = search needs
 
-write-items-enum-known-fault : (t : ℕ) → write-items-lts.Need-enum-known-fault (write-items-claims t) (write-items-at t) write-items.Post write-items-Inv-loop write-items-μ-loop
-write-items-enum-known-fault t c = search needs
+write-items-enum-known-number : (t : ℕ) → write-items-lts.Need-enum-known-number (write-items-claims t) (write-items-at t) write-items.Post write-items-Inv-loop write-items-μ-loop
+write-items-enum-known-number t c = search needs
 
 write-items-same-length : (t : ℕ) → write-items-lts.Need-same-length (write-items-claims t) (write-items-at t) write-items.Post write-items-Inv-loop write-items-μ-loop
 write-items-same-length t c = search needs
+
+write-items-fault-requires : (t : ℕ) → write-items-lts.Need-fault-requires (write-items-claims t) (write-items-at t) write-items.Post write-items-Inv-loop write-items-μ-loop
+write-items-fault-requires t c κs = search needs
 
 write-items-returns : (t : ℕ) → write-items-lts.Need-returns (write-items-claims t) (write-items-at t) write-items.Post write-items-Inv-loop write-items-μ-loop
 write-items-returns t c = search items.items-refused
@@ -283,8 +290,8 @@ write-items-add-write-elements t c = search needs
 write-items-write-elements-requires : (t : ℕ) → write-items-lts.Need-write-elements-requires (write-items-claims t) (write-items-at t) write-items.Post write-items-Inv-loop write-items-μ-loop
 write-items-write-elements-requires t c κs = search (items.elements-fall, items.item-room, items.item-order, items.item-inside, needs)
 
-write-items-enum-known-fault-2 : (t : ℕ) → write-items-lts.Need-enum-known-fault-2 (write-items-claims t) (write-items-at t) write-items.Post write-items-Inv-loop write-items-μ-loop
-write-items-enum-known-fault-2 t c = search needs
+write-items-enum-known-fault : (t : ℕ) → write-items-lts.Need-enum-known-fault (write-items-claims t) (write-items-at t) write-items.Post write-items-Inv-loop write-items-μ-loop
+write-items-enum-known-fault t c = search needs
 
 write-items-same-length-3 : (t : ℕ) → write-items-lts.Need-same-length-3 (write-items-claims t) (write-items-at t) write-items.Post write-items-Inv-loop write-items-μ-loop
 write-items-same-length-3 t c = search needs
@@ -344,6 +351,7 @@ pub +write-element+write-elements+write-items+write-one-spec : {M : Type 1} → 
     (write-element-at t)
     write-element.Post
     (write-element-enum-known-h t)
+    (write-element-fault-requires t)
     (write-element-enum-known-h-2 t)
     (write-element-enum-known-h-3 t)
     (write-element-copy-requires t)
@@ -395,7 +403,8 @@ pub +write-element+write-elements+write-items+write-one-spec : {M : Type 1} → 
     write-items-μ-loop
     (write-items-loop-holds t)
     (write-items-item-header-requires t)
-    (write-items-enum-known-fault t)
+    (write-items-enum-known-number t)
+    (write-items-fault-requires t)
     (write-items-same-length t)
     (write-items-returns t)
     (write-items-enum-known-next t)
@@ -408,7 +417,7 @@ pub +write-element+write-elements+write-items+write-one-spec : {M : Type 1} → 
     (write-items-deeper-requires t)
     (write-items-add-write-elements t)
     (write-items-write-elements-requires t)
-    (write-items-enum-known-fault-2 t)
+    (write-items-enum-known-fault t)
     (write-items-same-length-3 t)
     (write-items-returns-3 t)
     (write-items-enum-known-holds-un t)

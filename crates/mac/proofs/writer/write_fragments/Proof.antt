@@ -1,4 +1,4 @@
--- `write_fragments` meets its contract: each place by its law in FragmentsLoop. Assumes nothing.
+-- `write_fragments` meets its contract: each place by its law in FragmentsSteps. Assumes nothing.
 use Rattle.mac.proofs.laws.writer.FragmentsLoop as steps
 use borrow.Author.Needs.{needs}
 use Prim.Native.Nat.{_-_}
@@ -17,11 +17,14 @@ loop-holds c = search steps.fragments-start
 item-header-requires : tie.Need-item-header-requires Inv-loop μ-loop
 item-header-requires c κs = search needs
 
-enum-known-fault : tie.Need-enum-known-fault Inv-loop μ-loop
-enum-known-fault c = search needs
+enum-known-number : tie.Need-enum-known-number Inv-loop μ-loop
+enum-known-number c = search needs
 
 same-length : tie.Need-same-length Inv-loop μ-loop
 same-length c = search needs
+
+fault-requires : tie.Need-fault-requires Inv-loop μ-loop
+fault-requires c κs = search needs
 
 returns : tie.Need-returns Inv-loop μ-loop
 returns c = search steps.fragments-refused
@@ -70,7 +73,8 @@ write-fragments-spec =
     μ-loop
     loop-holds
     item-header-requires
-    enum-known-fault
+    enum-known-number
+    fault-requires
     same-length
     returns
     enum-known-next
