@@ -7,8 +7,9 @@ use Rattle.mac.specs.Result.{Result, Streamed}
 use Rattle.mac_theorems.specs.Calls.{EitherCall, setOf, roomOf, resultOf}
 use Rattle.mac_theorems.specs.Demand3.{written}
 use Rattle.mac_theorems.proofs.Demand3.{demand-3}
+use Rattle.mac_theorems.proofs.Theorems as calls
 use Rattle.eddyplume.specs.Boundary.{answerWords, whichOf, StreamedTo, CheckedTo}
-use Rattle.eddyplume.specs.Theorems.{RunInC, LeavesRuns, numberIn, writtenIn, FirstHalfInC, SecondHalfInC, AcceptedHasContentInC, Theorems}
+use Rattle.eddyplume.specs.Theorems.{RunInC, LeavesRuns, numberIn, writtenIn, FirstHalfInC, SecondHalfInC, AcceptedHasContentInC, MeasuresInC, Theorems}
 
 -- ---- what the functions leave is a run
 checked-run : (c : EitherCall) (work after answer verdict : List ℕ) → roomOf c ≡ length work → CheckedTo (resultOf c) (setOf c) work after answer verdict
@@ -36,6 +37,14 @@ leaves-runs = record {
     words = u .answers;
   };
   signature-check = λ uid numbered number set expected work after answer verdict. checked-run _ work after answer verdict refl;
+}
+
+-- ---- measuring
+measures : MeasuresInC
+measures = record {
+  of-list = λ list set out after answer measured h u m. u .answers ∙ ap answerWords (calls.theorems .measures-as-stream .of-list list set out h) ∙ sym m;
+  of-signature = λ uid numbered number set out after answer measured h u m.
+      u .answers ∙ ap answerWords (calls.theorems .measures-as-stream .of-signature uid (whichOf numbered number) set out h) ∙ sym m;
 }
 
 -- ---- the words of an answer
@@ -70,6 +79,7 @@ accepted-has-content c out after answer said u h =
 pub theorems : Theorems
 theorems = record {
   leaves-runs = leaves-runs;
+  measures = measures;
   first-half = first-half;
   second-half = second-half;
   accepted-has-content = accepted-has-content;

@@ -47,7 +47,7 @@ pub record CheckedTo (c : Result) (set work after answer verdict : List ℕ) : T
   pub output : after ≡ outputAfter c work
   pub bytes : OfBytes set
 
--- eddyplume_list_measure: what is left in `answer`
+-- eddyplume_list_measure, a measuring call (7.9): what is left in `answer`
 abbrev pub ListMeasured : (list set answer : List ℕ) → Type 0
 ListMeasured list set answer = answer ≡ answerWords (listMode.measure list set)
 

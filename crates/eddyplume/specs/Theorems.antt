@@ -1,12 +1,12 @@
 -- What is proved of the calls, said of the functions that C calls. 12.1: "What is promised of a function of the library is promised of the
 -- function that C calls". All of it is the record Theorems, proved in proofs/Theorems.antt.
 -- Assumes nothing.
-use Prim.Native.Nat.{ℕ}
+use Prim.Native.Nat.{ℕ, _≤_}
 use mathlib.Core.Path.{_≡_}
 use mathlib.Core.Logic.{_↔_}
 use mathlib.Core.Bool.{Bool, false}
 use mathlib.Core.List.{List}
-use lib.ListN.{getD, take}
+use lib.ListN.{length, getD, take}
 use Rattle.answer.specs.declared.Answer.{Answer}
 use Rattle.mac.specs.Result.{neither}
 use Rattle.mac.specs.ListMode.{Call, contentOf}
@@ -14,7 +14,7 @@ use Rattle.mac.specs.ListMode as listMode
 use Rattle.mac.specs.SignatureMode as signatureMode
 use Rattle.mac_theorems.specs.Calls.{EitherCall, inListMode, inSignatureMode, Run}
 use Rattle.mac_theorems.specs.Demand3.{signedInFragments, on, HasSignedContent}
-use Rattle.eddyplume.specs.Boundary.{answerWords, whichOf, ListStreamed, ListChecked, SignatureStreamed, SignatureChecked}
+use Rattle.eddyplume.specs.Boundary.{answerWords, whichOf, ListMeasured, SignatureMeasured, ListStreamed, ListChecked, SignatureStreamed, SignatureChecked}
 
 -- what a call of C leaves: a run (crates/mac_theorems/specs/Calls), with its answer in three words
 pub record RunInC (c : EitherCall) (out after answer : List ℕ) (said : ℕ) : Type 0 where
@@ -70,9 +70,18 @@ abbrev pub AcceptedHasContentInC : Type 0
 AcceptedHasContentInC =
     (c : Call) (out after answer : List ℕ) (said : ℕ) → RunInC (inListMode c) out after answer said → numberIn answer ≡ 0 → HasSignedContent c
 
+-- ---- measuring (7.9): "the answer that the call for the stream has with room enough"
+pub record MeasuresInC : Type 0 where
+  pub of-list : (list set out after answer measured : List ℕ)
+      → length (listMode.streamIn list set) ≤ length out → ListStreamed list set out after answer → ListMeasured list set measured → answer ≡ measured
+  pub of-signature : (uid : List ℕ) (numbered : Bool) (number : ℕ) (set out after answer measured : List ℕ)
+      → length (signatureMode.streamIn uid (whichOf numbered number) set) ≤ length out → SignatureStreamed uid numbered number set out after answer
+      → SignatureMeasured uid numbered number set measured → answer ≡ measured
+
 -- all of them
 pub record Theorems : Type 0 where
   pub leaves-runs : LeavesRuns
+  pub measures : MeasuresInC
   pub first-half : FirstHalfInC
   pub second-half : SecondHalfInC
   pub accepted-has-content : AcceptedHasContentInC

@@ -45,7 +45,7 @@ answerTo15 list set =
     orElse answerOf (dataSet set)
     orElse tagsAnswer 0 (tagsIn list) (tree set)
 
--- what measuring answers: the order up to 15; or else the stream's length
+-- 7.9, what a measuring call answers: the order up to 15; or else "with number 0 the length is the stream's"
 unfoldable pub measure : (list set : List ℕ) → Answer
 measure list set = answerTo15 list set orElse accepted (length (streamIn list set))
 

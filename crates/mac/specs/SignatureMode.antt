@@ -61,7 +61,7 @@ streamIn uid which set = streamBy (select uid which (tree set) set) set
 unfoldable pub answerTo15 : (uid : List ℕ) (which : Signature) (set : List ℕ) → Answer
 answerTo15 uid which set = answerOf (dataSet set) orElse selectionAnswer (select uid which (tree set) set)
 
--- what measuring answers: the order up to 15; or else the stream's length
+-- 7.9, what a measuring call answers: the order up to 15; or else "with number 0 the length is the stream's"
 unfoldable pub measure : (uid : List ℕ) (which : Signature) (set : List ℕ) → Answer
 measure uid which set = answerTo15 uid which set orElse accepted (length (streamIn uid which set))
 

@@ -88,7 +88,7 @@ pub record ChecksAsStream : Type 0 where
       → signatureMode.answer (signatureMode.checkCall uid which set expected work)
       ≡ signatureMode.answer (signatureMode.streamCall uid which set work)
 
--- measuring answers as the call for the stream does with room enough
+-- 7.9: a measuring call "has the answer that the call for the stream has with room enough"
 pub record MeasuresAsStream : Type 0 where
   pub of-list : (list set out : List ℕ) → length (listMode.streamIn list set) ≤ length out
       → listMode.answer (listMode.streamCall list set out) ≡ listMode.measure list set
