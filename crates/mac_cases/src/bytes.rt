@@ -1,24 +1,10 @@
 // Bytes as text: hex pairs, and groups [HEX*N] for N repeats of the bytes HEX; - is no bytes.
-
-// Which part of the text is read.
-const OUTSIDE: u8 = 0;
-
-const GROUP_BYTES: u8 = 1;
-
-const GROUP_COUNT: u8 = 2;
+use crate::fields;
+use crate::fields::Number;
+ghost use Prim.Native.Nat.{_+_, _<_, _≤_};
+ghost use lib.ListN.{length};
 
 const NO_DIGIT: u8 = 16;
-
-// How far the text is read: `filled` bytes are in the room, those of the group from `from` on; `digit` is the first digit of a
-// pair, `count` the group's number so far.
-pub(crate) struct Progress {
-    pub good: bool,
-    pub part: u8,
-    pub digit: u8,
-    pub filled: usize,
-    pub from: usize,
-    pub count: usize,
-}
 
 // The value of a hex digit, or NO_DIGIT.
 pub(crate) fn digit_of(c: u8) -> u8 {
@@ -40,164 +26,103 @@ pub(crate) fn digit_of(c: u8) -> u8 {
     NO_DIGIT
 }
 
-fn not_understood(p: Progress) -> Progress {
-    let mut q = p;
-    q.good = false;
-    q
-}
+const NO_BYTE: u16 = 256;
 
-// A hex digit: the first of a pair waits, the second puts a byte into the room.
-fn hex_digit(p: Progress, v: u8, room: &mut [u8]) -> Progress {
-    let mut q = p;
-    let high = q.digit;
-    let filled = q.filled;
-    if NO_DIGIT <= v {
-        return not_understood(p);
+// The byte of the hex pair at i, or NO_BYTE.
+fn byte_at(text: &[u8], i: usize) -> u16
+    requires { ⌜ i < length (now text) ⌝ }
+    ensures { λ r. ⌜ (r < 256 → i + 2 ≤ length (now (text .entry))) ⌝ }
+{
+    if text.len() - i < 2 {
+        return NO_BYTE;
     }
+    let high = digit_of(text[i]);
+    let low = digit_of(text[i + 1]);
     if NO_DIGIT <= high {
-        q.digit = v;
-        return q;
+        return NO_BYTE;
     }
-    if room.len() <= filled {
-        return not_understood(p);
+    if NO_DIGIT <= low {
+        return NO_BYTE;
     }
-    room[filled] = high * 16 + v;
-    q.digit = NO_DIGIT;
-    q.filled = filled + 1;
-    q
+    (high * 16 + low) as u16
 }
 
-// Puts the `size` bytes at `from` once more, at `to`, and answers the offset past them; where they do not fit, `to`.
-fn once_more(room: &mut [u8], from: usize, size: usize, to: usize) -> usize {
-    if to < from {
-        return to;
-    }
-    if to - from < size {
-        return to;
-    }
-    if room.len() < to {
-        return to;
-    }
-    if room.len() - to < size {
-        return to;
-    }
+// The offset of bytes that are not understood or do not fit: no room has it, and what is put there stays there.
+pub(crate) const NOWHERE: usize = 18446744073709551615;
+
+// Puts hex pairs into a room from `to` on. The offset past them, or NOWHERE.
+fn pairs(text: &[u8], room: &mut [u8], to: usize) -> usize {
+    let mut filled = to;
     let mut i = 0;
-    while i < size {
-        room[to + i] = room[from + i];
+    while i < text.len() {
+        let byte = byte_at(text, i);
+        if NO_BYTE <= byte {
+            return NOWHERE;
+        }
+        if room.len() <= filled {
+            return NOWHERE;
+        }
+        room[filled] = byte as u8;
+        filled += 1;
+        i += 2;
+    }
+    filled
+}
+
+// Puts hex pairs, one or more, `count` times. They have to be understood, and to fit once, also where the count is 0.
+fn repeated(text: &[u8], count: usize, room: &mut [u8], to: usize) -> usize {
+    if text.len() == 0 {
+        return NOWHERE;
+    }
+    if room.len() < count {
+        return NOWHERE;
+    }
+    if pairs(text, room, to) == NOWHERE {
+        return NOWHERE;
+    }
+    let mut filled = to;
+    let mut i = 0;
+    while i < count {
+        filled = pairs(text, room, filled);
         i += 1;
     }
-    to + size
+    filled
 }
 
-// The end of a group: its bytes stand once in the room, and are put there again until they stand `count` times.
-fn repeated(p: Progress, room: &mut [u8]) -> Progress {
-    let mut q = p;
-    let from = p.from;
-    q.part = OUTSIDE;
-    if p.count == 0 {
-        q.filled = from;
-        return q;
-    }
-    let mut left = p.count - 1;
-    let mut to = p.filled;
-    if to <= from {
-        return not_understood(p);
-    }
-    let size = to - from;
-    while 0 < left {
-        let next = once_more(room, from, size, to);
-        if next == to {
-            return not_understood(p);
-        }
-        to = next;
-        left -= 1;
-    }
-    q.filled = to;
-    q
-}
-
-// One digit more of a group's count.
-fn count_digit(p: Progress, v: u8) -> Progress {
-    let mut q = p;
-    let count = p.count;
-    if 9 < v {
-        return not_understood(p);
-    }
-    if 100000000 < count {
-        return not_understood(p);
-    }
-    q.count = count * 10 + v as usize;
-    q
-}
-
-// One character more.
-fn step(p: Progress, c: u8, room: &mut [u8]) -> Progress {
-    let mut q = p;
-    if p.part == GROUP_COUNT {
-        if c == b']' {
-            return repeated(p, room);
-        }
-        return count_digit(p, digit_of(c));
-    }
-    if p.digit < NO_DIGIT {
-        return hex_digit(p, digit_of(c), room);
-    }
-    if c == b'[' {
-        if p.part == OUTSIDE {
-            q.part = GROUP_BYTES;
-            q.from = p.filled;
-            return q;
-        }
-        return not_understood(p);
-    }
-    if c == b'*' {
-        if p.part == GROUP_BYTES {
-            q.part = GROUP_COUNT;
-            q.count = 0;
-            return q;
-        }
-        return not_understood(p);
-    }
-    hex_digit(p, digit_of(c), room)
-}
-
-// The bytes that a field says are put into the room from its start on: how many, or that the field is not understood.
-pub(crate) enum Bytes {
-    Good(usize),
-    Bad,
-}
-
-pub(crate) fn put(field: &[u8], room: &mut [u8]) -> Bytes {
-    if check::same(field, b"-") {
-        return Bytes::Good(0);
-    }
-    if field.len() == 0 {
-        return Bytes::Bad;
-    }
-    let mut p = Progress {
-        good: true,
-        part: OUTSIDE,
-        digit: NO_DIGIT,
-        filled: 0,
-        from: 0,
-        count: 0,
+// Puts hex pairs and a group, HEX[HEX*N, without the group's end.
+fn group(text: &[u8], room: &mut [u8], to: usize) -> usize {
+    let inside = fields::behind(text, b'[');
+    let Number::Good(count) = fields::number_of(fields::behind(inside, b'*')) else {
+        return NOWHERE;
     };
-    let mut i = 0;
-    while i < field.len() {
-        p = step(p, field[i], room);
-        if !p.good {
-            return Bytes::Bad;
+    let from = pairs(fields::before(text, b'['), room, to);
+    repeated(fields::before(inside, b'*'), count, room, from)
+}
+
+// - is no bytes; no other field has fewer than two characters.
+fn dash(field: &[u8], to: usize) -> usize {
+    if field.len() == 1 {
+        if field[0] == b'-' {
+            return to;
         }
-        i += 1;
     }
-    if p.part != OUTSIDE {
-        return Bytes::Bad;
+    NOWHERE
+}
+
+// Puts the bytes that a field says.
+pub(crate) fn put(field: &[u8], room: &mut [u8], to: usize) -> usize {
+    if field.len() < 2 {
+        return dash(field, to);
     }
-    if p.digit < NO_DIGIT {
-        return Bytes::Bad;
+    let mut filled = to;
+    let mut at = 0;
+    while at < field.len() {
+        let end = fields::until(field, b']', at);
+        if end == field.len() {
+            return pairs(&field[at..end], room, filled);
+        }
+        filled = group(&field[at..end], room, filled);
+        at = end + 1;
     }
-    if room.len() < p.filled {
-        return Bytes::Bad;
-    }
-    Bytes::Good(p.filled)
+    filled
 }

@@ -1,15 +1,19 @@
-// The fields of a line, parted by single spaces and counted from 0, and the numbers in them.
+// The fields of a line, parted by single spaces, from the first on: a line's first field, what is left of the line behind it, and the
+// numbers in a field. No field that is understood is empty, so that a missing field is not understood. The last field of a case, its
+// bytes, is all that is left of the line: no bytes are spelled with a space, so that a field too many is not understood.
 use crate::bytes;
 ghost use Prim.Native.Nat.{_≤_, _<_};
 ghost use lib.ListN.{length};
 
-// The first n bytes of s, or all of s where it has fewer.
-pub(crate) fn first(s: &[u8], n: usize) -> &[u8] {
-    if s.len() < n {
-        return s;
+// The part of s from `from` to `to`; no bytes where s has no such part.
+pub(crate) fn part(s: &[u8], from: usize, to: usize) -> &[u8] {
+    if from <= to {
+        if to <= s.len() {
+            return &s[from..to];
+        }
     }
-    let start = 0;
-    &s[start..n]
+    let none = 0;
+    &s[none..none]
 }
 
 // The offset of the first byte b of s from `from` on, or the end of s.
@@ -27,51 +31,31 @@ pub(crate) fn until(s: &[u8], b: u8, from: usize) -> usize
     i
 }
 
-// Where the field after the one at `from` starts, or the end of the line.
-fn next(line: &[u8], from: usize) -> usize
-    requires { ⌜ from ≤ length (now line) ⌝ }
-    ensures { λ r. ⌜ r ≤ length (now (line .entry)) ⌝ }
-{
-    let end = until(line, b' ', from);
-    if end < line.len() {
-        return end + 1;
-    }
-    end
+// What stands before the first byte b of s: all of s where there is none.
+pub(crate) fn before(s: &[u8], b: u8) -> &[u8] {
+    let start = 0;
+    let end = until(s, b, start);
+    &s[start..end]
 }
 
-// Field k of the line; no bytes where it has fewer fields.
-pub(crate) fn field(line: &[u8], k: usize) -> &[u8] {
-    let mut from = 0;
-    let mut i = 0;
-    while i < k {
-        from = next(line, from);
-        i += 1;
+// What stands behind the first byte b of s: nothing where there is none.
+pub(crate) fn behind(s: &[u8], b: u8) -> &[u8] {
+    let end = until(s, b, 0);
+    if end == s.len() {
+        return &s[end..];
     }
-    let end = until(line, b' ', from);
-    &line[from..end]
+    let next = end + 1;
+    &s[next..]
 }
 
-// How many fields the line has.
-pub(crate) fn count(line: &[u8]) -> usize {
-    let mut fields: usize = 1;
-    let mut i = 0;
-    while i < line.len() {
-        if line[i] == b' ' {
-            if fields < 100 {
-                fields += 1;
-            }
-        }
-        i += 1;
-    }
-    fields
+// The first field of a line.
+pub(crate) fn field(line: &[u8]) -> &[u8] {
+    before(line, b' ')
 }
 
-// Whether the line is of this kind: its second field is the kind, and it has so many fields.
-pub(crate) fn is(line: &[u8], kind: &[u8], fields: usize) -> bool {
-    if count(line) != fields {
-        return false;
-    }
-    check::same(field(line, 1), kind)
+// What is left of a line behind its first field.
+pub(crate) fn rest(line: &[u8]) -> &[u8] {
+    behind(line, b' ')
 }
 
 // A number of 64 bits.
@@ -81,7 +65,7 @@ pub(crate) enum Number {
 }
 
 // The number that a field says in a base.
-fn number_in(field: &[u8], base: usize) -> Number
+pub(crate) fn number_in(field: &[u8], base: usize) -> Number
     requires { ⌜ 0 < base ⌝ }
 {
     if field.len() == 0 {
@@ -108,23 +92,4 @@ fn number_in(field: &[u8], base: usize) -> Number
 // A number in decimal.
 pub(crate) fn number_of(field: &[u8]) -> Number {
     number_in(field, 10)
-}
-
-pub(crate) enum Tag {
-    Good(u32),
-    Bad,
-}
-
-// A tag as eight hex digits, group first.
-pub(crate) fn tag_of(field: &[u8]) -> Tag {
-    if field.len() != 8 {
-        return Tag::Bad;
-    }
-    let Number::Good(n) = number_in(field, 16) else {
-        return Tag::Bad;
-    };
-    if 0xFFFFFFFF < n {
-        return Tag::Bad;
-    }
-    Tag::Good(n as u32)
 }

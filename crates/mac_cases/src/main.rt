@@ -20,12 +20,12 @@ mod mode_kinds;
 mod print;
 mod reading_kinds;
 
-// Runs each line of the text, with rooms for a case's data set and for its output.
-fn run(text: &[u8], data: &mut [u8], out: &mut [u8]) {
+// Runs each line of the text.
+fn run(text: &[u8]) {
     let mut at = 0;
     while at < text.len() {
         let end = fields::until(text, b'\n', at);
-        kinds::run_case(&text[at..end], data, out);
+        kinds::run_case(&text[at..end]);
         if end == text.len() {
             return;
         }
@@ -33,20 +33,18 @@ fn run(text: &[u8], data: &mut [u8], out: &mut [u8]) {
     }
 }
 
-// Reads the text of the cases and runs it, with rooms a little over the size of a data set. The text may be as long as a case of the
-// largest data set in hex, and a little more; of a longer one nothing is run.
-fn run_input(input: &mut [u8; 2228224], data: &mut [u8; 1048640], out: &mut [u8; 1048640]) {
+// Reads the text of the cases and runs it. The text may be as long as a case of the largest data set in hex, and a little more; of a
+// longer one nothing is run.
+fn run_input(input: &mut [u8; 2228224]) {
     let n = io::read_full(libc::STDIN_FILENO, input);
     if n == input.len() {
         print::text(b"input over 2228223 bytes\n");
         return;
     }
-    run(fields::first(input, n), data, out);
+    run(fields::part(input, 0, n));
 }
 
 fn main() {
     let mut input = [0u8; 2228224];
-    let mut data = [0u8; 1048640];
-    let mut out = [0u8; 1048640];
-    run_input(&mut input, &mut data, &mut out);
+    run_input(&mut input);
 }

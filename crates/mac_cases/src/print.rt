@@ -5,15 +5,21 @@ pub(crate) fn text(s: &[u8]) {
     io::write_all(STDOUT_FILENO, s);
 }
 
-// For a line that is not understood.
-pub(crate) fn not_understood() {
-    text(b" ?\n");
+pub(crate) fn byte(b: u8) {
+    let s = [b];
+    text(&s);
 }
 
 // A space and a number.
 pub(crate) fn number(n: u64) {
-    text(b" ");
+    byte(b' ');
     io::print_decimal(STDOUT_FILENO, n);
+}
+
+// The number and the position of an answer.
+pub(crate) fn fault(n: u8, position: usize) {
+    number(n as u64);
+    number(position as u64);
 }
 
 fn wide(b: u8) -> u64 {
@@ -24,7 +30,7 @@ fn wide(b: u8) -> u64 {
 pub(crate) fn hex(bytes: &[u8]) {
     let mut i = 0;
     if 0 < bytes.len() {
-        text(b" ");
+        byte(b' ');
     }
     while i < bytes.len() {
         io::print_hex(STDOUT_FILENO, wide(bytes[i]), 2);

@@ -7,40 +7,55 @@ use Rattle.mac_cases.proofs.bytes.put.Statement.{statement}
 use Rattle.mac_cases.proofs.bytes.put.Tie as tie
 
 abbrev Inv-loop : tie.InvT-loop
-Inv-loop field room₀ p₀ i₀ room p i = (length room ≡ length room₀) × (i ≤ length field)
+Inv-loop field room₀ to filled₀ at₀ room filled at = (length room ≡ length room₀) × (at ≤ length field)
 
 abbrev μ-loop : tie.MeasureT-loop
-μ-loop field room₀ p₀ i₀ room p i = length field - i
+μ-loop field room₀ to filled₀ at₀ room filled at = length field - at
 
-slice-aggregate-same : tie.Need-slice-aggregate-same Inv-loop μ-loop
-slice-aggregate-same c = search needs
-
-same-requires : tie.Need-same-requires Inv-loop μ-loop
-same-requires c κs = search needs
+dash-requires : tie.Need-dash-requires Inv-loop μ-loop
+dash-requires c κs = search needs
 
 returns : tie.Need-returns Inv-loop μ-loop
 returns c = search needs
 
-returns-2 : tie.Need-returns-2 Inv-loop μ-loop
-returns-2 c = search needs
-
 loop-holds : tie.Need-loop-holds Inv-loop μ-loop
 loop-holds c = search needs
 
-shared-slice-read-step : tie.Need-shared-slice-read-step Inv-loop μ-loop
-shared-slice-read-step c = search needs
+until-requires : tie.Need-until-requires Inv-loop μ-loop
+until-requires c κs = search needs
 
-step-requires : tie.Need-step-requires Inv-loop μ-loop
-step-requires c κs = search needs
+sub-pairs : tie.Need-sub-pairs Inv-loop μ-loop
+sub-pairs c = search needs
+
+part-pairs-start : tie.Need-part-pairs-start Inv-loop μ-loop
+part-pairs-start c = search needs
+
+part-pairs-end : tie.Need-part-pairs-end Inv-loop μ-loop
+part-pairs-end c = search needs
+
+pairs-requires : tie.Need-pairs-requires Inv-loop μ-loop
+pairs-requires c κs = search needs
 
 same-length : tie.Need-same-length Inv-loop μ-loop
 same-length c = search needs
 
-returns-3 : tie.Need-returns-3 Inv-loop μ-loop
-returns-3 c = search needs
+returns-2 : tie.Need-returns-2 Inv-loop μ-loop
+returns-2 c = search needs
 
-add-i : tie.Need-add-i Inv-loop μ-loop
-add-i c = search needs
+sub-group : tie.Need-sub-group Inv-loop μ-loop
+sub-group c = search needs
+
+part-group-start : tie.Need-part-group-start Inv-loop μ-loop
+part-group-start c = search needs
+
+part-group-end : tie.Need-part-group-end Inv-loop μ-loop
+part-group-end c = search needs
+
+group-requires : tie.Need-group-requires Inv-loop μ-loop
+group-requires c κs = search needs
+
+add-at : tie.Need-add-at Inv-loop μ-loop
+add-at c = search needs
 
 loop-less : tie.Need-loop-less Inv-loop μ-loop
 loop-less c = search needs
@@ -51,26 +66,8 @@ loop-again c = search needs
 same-length-2 : tie.Need-same-length-2 Inv-loop μ-loop
 same-length-2 c = search needs
 
-returns-4 : tie.Need-returns-4 Inv-loop μ-loop
-returns-4 c = search needs
-
-same-length-3 : tie.Need-same-length-3 Inv-loop μ-loop
-same-length-3 c = search needs
-
-returns-5 : tie.Need-returns-5 Inv-loop μ-loop
-returns-5 c = search needs
-
-same-length-4 : tie.Need-same-length-4 Inv-loop μ-loop
-same-length-4 c = search needs
-
-returns-6 : tie.Need-returns-6 Inv-loop μ-loop
-returns-6 c = search needs
-
-same-length-5 : tie.Need-same-length-5 Inv-loop μ-loop
-same-length-5 c = search needs
-
-returns-7 : tie.Need-returns-7 Inv-loop μ-loop
-returns-7 c = search needs
+returns-3 : tie.Need-returns-3 Inv-loop μ-loop
+returns-3 c = search needs
 
 pub put-spec : {M : Type 1} → statement M
 put-spec =
@@ -78,23 +75,22 @@ put-spec =
     (tie.spec
     Inv-loop
     μ-loop
-    slice-aggregate-same
-    same-requires
+    dash-requires
     returns
-    returns-2
     loop-holds
-    shared-slice-read-step
-    step-requires
+    until-requires
+    sub-pairs
+    part-pairs-start
+    part-pairs-end
+    pairs-requires
     same-length
-    returns-3
-    add-i
+    returns-2
+    sub-group
+    part-group-start
+    part-group-end
+    group-requires
+    add-at
     loop-less
     loop-again
     same-length-2
-    returns-4
-    same-length-3
-    returns-5
-    same-length-4
-    returns-6
-    same-length-5
-    returns-7)
+    returns-3)

@@ -1,39 +1,25 @@
 -- `repeated` is safe and ends. Assumes nothing.
 use mathlib.Core.Path.{_≡_}
 use borrow.Author.Needs.{needs}
+use Prim.Native.Nat.{_-_, _≤_}
 use lib.ListN.{length}
 use Rattle.mac_cases.proofs.bytes.repeated.Statement.{statement}
 use Rattle.mac_cases.proofs.bytes.repeated.Tie as tie
 
 abbrev Inv-loop : tie.InvT-loop
-Inv-loop p room₀ q from left₀ to₀ size room left to = length room ≡ length room₀
+Inv-loop text count room₀ to filled₀ i₀ room filled i = (length room ≡ length room₀) × (i ≤ count)
 
 abbrev μ-loop : tie.MeasureT-loop
-μ-loop p room₀ q from left₀ to₀ size room left to = left
+μ-loop text count room₀ to filled₀ i₀ room filled i = count - i
 
 returns : tie.Need-returns Inv-loop μ-loop
 returns c = search needs
 
-sub-left : tie.Need-sub-left Inv-loop μ-loop
-sub-left c = search needs
-
-not-understood-requires : tie.Need-not-understood-requires Inv-loop μ-loop
-not-understood-requires c κs = search needs
-
 returns-2 : tie.Need-returns-2 Inv-loop μ-loop
 returns-2 c = search needs
 
-sub-size : tie.Need-sub-size Inv-loop μ-loop
-sub-size c = search needs
-
-loop-holds : tie.Need-loop-holds Inv-loop μ-loop
-loop-holds c = search needs
-
-once-more-requires : tie.Need-once-more-requires Inv-loop μ-loop
-once-more-requires c κs = search needs
-
-not-understood-requires-2 : tie.Need-not-understood-requires-2 Inv-loop μ-loop
-not-understood-requires-2 c κs = search needs
+pairs-requires : tie.Need-pairs-requires Inv-loop μ-loop
+pairs-requires c κs = search needs
 
 same-length : tie.Need-same-length Inv-loop μ-loop
 same-length c = search needs
@@ -41,8 +27,14 @@ same-length c = search needs
 returns-3 : tie.Need-returns-3 Inv-loop μ-loop
 returns-3 c = search needs
 
-sub-left-2 : tie.Need-sub-left-2 Inv-loop μ-loop
-sub-left-2 c = search needs
+loop-holds : tie.Need-loop-holds Inv-loop μ-loop
+loop-holds c = search needs
+
+pairs-requires-2 : tie.Need-pairs-requires-2 Inv-loop μ-loop
+pairs-requires-2 c κs = search needs
+
+add-i : tie.Need-add-i Inv-loop μ-loop
+add-i c = search needs
 
 loop-less : tie.Need-loop-less Inv-loop μ-loop
 loop-less c = search needs
@@ -63,16 +55,13 @@ repeated-spec =
     Inv-loop
     μ-loop
     returns
-    sub-left
-    not-understood-requires
     returns-2
-    sub-size
-    loop-holds
-    once-more-requires
-    not-understood-requires-2
+    pairs-requires
     same-length
     returns-3
-    sub-left-2
+    loop-holds
+    pairs-requires-2
+    add-i
     loop-less
     loop-again
     same-length-2
