@@ -57,7 +57,7 @@ itemCase (itemHeader.Refused number position) = ItemHeader.refused number positi
 itemCase (itemHeader.End next) = ItemHeader.ends next
 itemCase (itemHeader.Item start end delimited) = ItemHeader.item start end delimited
 
--- The fault of a refused header: every fault of the reading but 1 is this one.
+-- The fault of a refused header, with "the offset of the header at which it is found" (2.20): every fault of the reading but 1 is this one.
 abbrev pub faultAt : (number position : ℕ) → Answer
 faultAt number position = answer.refused number position
 

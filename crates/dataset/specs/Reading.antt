@@ -157,7 +157,7 @@ sizeLimit = 1048576
 unfoldable pub sizeAnswer : List ℕ → Answer
 sizeAnswer d = if ltb sizeLimit (length d) then answer.refused 1 0 else answer.accepted 0
 
--- a reading behind an answer: its refusal comes before
+-- a reading behind an answer, whose refusal comes "before 2 to 8" (2.21)
 unfoldable pub unlessRefused : {A : Type 0} → Answer → Reading A → Reading A
 unlessRefused a p = if eqb (a .number) 0 then p else fault a
 

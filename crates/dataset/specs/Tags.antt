@@ -1,4 +1,5 @@
--- The tags that the rules name, by their names in the data dictionary (PS3.6), ascending: docs/RULES.md, 2.12 to 2.17, 4.3 and 8.
+-- The tags that the rules decide by, by their names in the data dictionary (PS3.6), ascending: docs/RULES.md, 2.12 to 2.17, 4.3, 8.2 to 8.4
+-- and 9.3 (18 to 23).
 -- Assumes nothing.
 use Prim.Native.Nat.{ℕ}
 

@@ -4,7 +4,7 @@ use crate::header::ItemHeader;
 use crate::reading;
 use answer::Answer;
 ghost use mathlib.Core.Path.{_≡_};
-ghost use Rattle.dataset.specs.Extent.{wholeOf, itemIn, itemInCase};
+ghost use Rattle.dataset.specs.Extent.{wholeOf, openedItem, openedCase};
 
 // From `from` up to `stop`, or to a delimiter before it; `left` levels of sequences may follow.
 pub struct Extent {
@@ -15,7 +15,7 @@ pub struct Extent {
 }
 
 // What stands in an item's place.
-pub enum ItemIn {
+pub enum OpenedItem {
     // the first fault
     Refused(Answer),
     // the items end here; what follows them is at this offset
@@ -37,15 +37,15 @@ pub fn whole(size: usize) -> Extent
 }
 
 // What stands at `at` in an item's place, among items that lie in x.
-pub fn item_in(d: &[u8], x: Extent, at: usize) -> ItemIn
-    ensures { λ r. ⌜ itemInCase r ≡ itemIn (now (d .entry)) x at ⌝ }
+pub fn open_item(d: &[u8], x: Extent, at: usize) -> OpenedItem
+    ensures { λ r. ⌜ openedCase r ≡ openedItem (now (d .entry)) x at ⌝ }
 {
     match header::item_header(d, true, x.delimited, x.stop, at) {
-        ItemHeader::Refused { number, position } => ItemIn::Refused(header::fault(
+        ItemHeader::Refused { number, position } => OpenedItem::Refused(header::fault(
             number,
             position,
         )),
-        ItemHeader::End(next) => ItemIn::End(next),
+        ItemHeader::End(next) => OpenedItem::End(next),
         ItemHeader::Item {
             start,
             end,
@@ -58,7 +58,7 @@ pub fn item_in(d: &[u8], x: Extent, at: usize) -> ItemIn
                 stop: end,
                 from: start,
             };
-            ItemIn::Item(inside)
+            OpenedItem::Item(inside)
         }
     }
 }

@@ -1,4 +1,4 @@
-// The tags that the rules name, by their names in the data dictionary, ascending.
+// The tags that the rules decide by, by their names in the data dictionary, ascending.
 
 pub const LENGTH_TO_END: u32 = 0x00080001;
 

@@ -42,9 +42,10 @@ leaves-runs = record {
 -- ---- measuring
 measures : MeasuresInC
 measures = record {
-  of-list = λ list set out after answer measured h u m. u .answers ∙ ap answerWords (calls.theorems .measures-as-stream .of-list list set out h) ∙ sym m;
+  of-list = λ list set out after answer measured h u m.
+      u .answers ∙ ap answerWords (calls.theorems .measures-as-stream .of-list list set out (rw (ap (λ (w : List ℕ). getD w 2 0) m) at h)) ∙ sym m;
   of-signature = λ uid numbered number set out after answer measured h u m.
-      u .answers ∙ ap answerWords (calls.theorems .measures-as-stream .of-signature uid (whichOf numbered number) set out h) ∙ sym m;
+      u .answers ∙ ap answerWords (calls.theorems .measures-as-stream .of-signature uid (whichOf numbered number) set out (rw (ap (λ (w : List ℕ). getD w 2 0) m) at h)) ∙ sym m;
 }
 
 -- ---- the words of an answer

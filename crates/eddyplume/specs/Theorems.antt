@@ -22,7 +22,7 @@ pub record RunInC (c : EitherCall) (out after answer : List ℕ) (said : ℕ) : 
   pub run : Run c out given said after
   pub words : answer ≡ answerWords given
 
--- what each of the four functions leaves is such a run; what a check says is verdict[0]
+-- what each of the four functions that write a stream leaves is such a run; what a check says is verdict[0]
 pub record LeavesRuns : Type 0 where
   pub list-stream : (list set out after answer : List ℕ) → ListStreamed list set out after answer
       → RunInC (inListMode (listMode.streamCall list set out)) out after answer neither
@@ -35,7 +35,7 @@ pub record LeavesRuns : Type 0 where
       → SignatureChecked uid numbered number set expected work after answer verdict
       → RunInC (inSignatureMode (signatureMode.checkCall uid (whichOf numbered number) set expected work)) work after answer (getD verdict 0 0)
 
--- ---- demand 3 (1.8), of what the two functions of list mode leave
+-- ---- demand 3 (1.8), of what the two functions of list mode leave that write a stream
 
 -- answer[0] is the number, answer[2] the length: the stream that a call has written
 abbrev pub numberIn : (answer : List ℕ) → ℕ
@@ -70,12 +70,12 @@ abbrev pub AcceptedHasContentInC : Type 0
 AcceptedHasContentInC =
     (c : Call) (out after answer : List ℕ) (said : ℕ) → RunInC (inListMode c) out after answer said → numberIn answer ≡ 0 → HasSignedContent c
 
--- ---- measuring (7.9): "the answer that the call for the stream has with room enough"
+-- ---- measuring (7.9): "the answer that the call for the stream has with room enough", which is measured[2]
 pub record MeasuresInC : Type 0 where
   pub of-list : (list set out after answer measured : List ℕ)
-      → length (listMode.streamIn list set) ≤ length out → ListStreamed list set out after answer → ListMeasured list set measured → answer ≡ measured
+      → getD measured 2 0 ≤ length out → ListStreamed list set out after answer → ListMeasured list set measured → answer ≡ measured
   pub of-signature : (uid : List ℕ) (numbered : Bool) (number : ℕ) (set out after answer measured : List ℕ)
-      → length (signatureMode.streamIn uid (whichOf numbered number) set) ≤ length out → SignatureStreamed uid numbered number set out after answer
+      → getD measured 2 0 ≤ length out → SignatureStreamed uid numbered number set out after answer
       → SignatureMeasured uid numbered number set measured → answer ≡ measured
 
 -- all of them

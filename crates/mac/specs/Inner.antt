@@ -1,4 +1,4 @@
--- For inner contracts, by the modules of src/; no part of what a reader has to believe.
+-- For inner contracts; no part of what a reader has to believe.
 pub mod Keep
 pub mod Writer
 pub mod Listed

@@ -1,5 +1,6 @@
 -- List mode, a term of docs/RULES.md, 1.1: "the MAC stream, from a list of tags alone". 1.5: "List mode takes in no fields of a
--- signature." One definition of the answer, for the stream and for the check.
+-- signature." One definition of the answer, for the stream and for the check; its order
+-- up to 15 is measuring's too.
 -- Assumes nothing.
 use Prim.Native.Nat.{ℕ}
 use mathlib.Core.List.{List}

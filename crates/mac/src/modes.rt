@@ -1,4 +1,4 @@
-// What both modes share: measuring, which is the order from 10 up to 15 and the stream's length; then 9, 16 and the writing.
+// What both modes share: measuring, which is 10 to 12, the fault of the reading, 13 to 15 and the stream's length; then 9, 16 and the writing.
 use crate::listed;
 use crate::own;
 use crate::tag_list;
@@ -41,7 +41,7 @@ fn write_stream(list: &[u8], d: &[u8], x: Extent, item: SignatureItem, out: &mut
     }
 }
 
-// Measures: 10 to 15, or the stream's length. Nothing is written.
+// Measures: 10 to 12, the fault of the reading, 13 to 15, or the stream's length. Nothing is written.
 pub(crate) fn measure(list: &[u8], d: &[u8], x: Extent, item: SignatureItem) -> Answer
     requires { ⌜ Lies (now d) x × SignatureItemReads (now d) item ⌝ }
     ensures { λ r. ⌜ r ≡ measureIn (now (list .entry)) (now (d .entry)) x item ⌝ }

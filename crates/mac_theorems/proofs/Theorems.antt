@@ -1,23 +1,28 @@
 -- The theorems that specs/Theorems.antt states. Assumes nothing.
-use Prim.Native.Nat.{_≤_}
-use mathlib.Core.Path.{_≡_, sym, ap, _∙_}
+use Prim.Native.Nat.{ℕ, _+_, _≤_}
+use mathlib.Core.Path.{_≡_, refl, sym, ap, _∙_}
+use mathlib.Core.Logic.{_≢_}
+use mathlib.Core.List.{List}
+use mathlib.Core.Option as Opt
 use mathlib.Core.Bool.{true, true≢false}
 use native.Mathlib.Omega.{arith}
-use lib.ListN.{length}
+use lib.ListN.{length, replicate, length-replicate}
 use borrow.Author.Tests.{eq-eqb}
 use Rattle.answer.specs.declared.Answer.{Answer}
 use Rattle.answer.specs.Answer.{accepted}
 use Rattle.mac.specs.Result.{isAccepted}
-use Rattle.mac_theorems.specs.Calls.{EitherCall, inListMode, inSignatureMode, roomOf, resultOf}
+use Rattle.mac.specs.ListMode as listMode
+use Rattle.mac.specs.SignatureMode as signatureMode
+use Rattle.mac_theorems.specs.Calls.{EitherCall, inListMode, inSignatureMode, setOf, roomOf, resultOf}
 use Rattle.mac_theorems.specs.Removed17.{Without17}
-use Rattle.mac_theorems.specs.Theorems.{Numbers, Positions, AcceptedOutput, RefusedOutput, VerdictExact, EnoughRoom, Theorems}
+use Rattle.mac_theorems.specs.Theorems.{Numbers, Positions, AcceptedOutput, RefusedOutput, VerdictExact, MeasuresAsStream, EnoughRoom, Theorems}
 use Rattle.mac_theorems.proofs.laws.answers.EveryAnswer.{Regular, answer-regular}
 use Rattle.mac_theorems.proofs.laws.answers.Acceptance.{answer-accepted, answer-fits}
 use Rattle.mac_theorems.proofs.laws.answers.SignatureAcceptance as signed
 use Rattle.mac_theorems.proofs.laws.answers.Outputs.{output-stream, output-rest, output-room, output-refused}
 use Rattle.mac_theorems.proofs.laws.answers.Verdicts.{says}
 use Rattle.mac_theorems.proofs.laws.signature.SignatureStream.{signature-stream}
-use Rattle.mac_theorems.proofs.laws.answers.CheckAnswers.{checks-as-stream, measures-as-stream}
+use Rattle.mac_theorems.proofs.laws.answers.CheckAnswers.{checks-as-stream, list-measured, signature-measured}
 use Rattle.mac_theorems.proofs.laws.length.SignatureStreamLength.{never-longer}
 use Rattle.mac_theorems.proofs.Removed17.{answers-same}
 
@@ -45,6 +50,42 @@ positions c = call-regular c .positioned
 
 enough-room : EnoughRoom
 enough-room c h z = call-regular c .possible .of16 z h
+
+-- ---- measuring: as the call for the stream with an output that has room for all
+
+-- as much room as is measured, and as the data set has bytes
+abbrev room : Answer → List ℕ → List ℕ
+room m set = replicate (m .length + length set) 0
+
+room-long : (m : Answer) (set : List ℕ) → length (room m set) ≡ m .length + length set
+room-long m set = length-replicate (m .length + length set) 0
+
+module _ (c : EitherCall) (m : Answer) (set : List ℕ) (s : setOf c ≡ set) (r : roomOf c ≡ length (room m set)) (n : resultOf c .expected ≡ Opt.none) (e : resultOf c .answer ≡ m) where
+  number-is : m .number ≡ resultOf c .answer .number
+  number-is = ap (λ (a : Answer). a .number) (sym e)
+
+  measured-9 : m .number ≢ 9
+  measured-9 z = numbers .of-stream c n (sym number-is ∙ z)
+
+  measured-16 : m .number ≢ 16
+  measured-16 z = enough-room c (omega (arith, ap length s, r, room-long m set)) (sym number-is ∙ z)
+
+measured-fits : (m : Answer) (set : List ℕ) → m .length ≤ length (room m set)
+measured-fits m set = omega (arith, room-long m set)
+
+measures-as-stream : MeasuresAsStream
+measures-as-stream = record {
+  of-list = list-measured;
+  of-signature = signature-measured;
+  never-9-in-list = λ list set. let m = listMode.measure list set in
+      measured-9 (inListMode (listMode.streamCall list set (room m set))) m set refl refl refl (list-measured list set (room m set) (measured-fits m set));
+  never-16-in-list = λ list set. let m = listMode.measure list set in
+      measured-16 (inListMode (listMode.streamCall list set (room m set))) m set refl refl refl (list-measured list set (room m set) (measured-fits m set));
+  never-9-in-signature = λ uid which set. let m = signatureMode.measure uid which set in
+      measured-9 (inSignatureMode (signatureMode.streamCall uid which set (room m set))) m set refl refl refl (signature-measured uid which set (room m set) (measured-fits m set));
+  never-16-in-signature = λ uid which set. let m = signatureMode.measure uid which set in
+      measured-16 (inSignatureMode (signatureMode.streamCall uid which set (room m set))) m set refl refl refl (signature-measured uid which set (room m set) (measured-fits m set));
+}
 
 accepted-output : AcceptedOutput
 accepted-output c out h r =

@@ -49,7 +49,7 @@ pub record Run (c : EitherCall) (out : List ℕ) (a : Answer) (said : ℕ) (afte
   pub output : after ≡ outputAfter (resultOf c) out
   pub bytes : OfBytes (setOf c)
 
--- what the four functions promise is such a run
+-- what the four functions that write a stream promise is such a run
 pub record PromisedRuns : Type 0 where
   pub list-stream : (list set out after : List ℕ) (r : Answer)
       → Streamed (listMode.result (listMode.streamCall list set out)) set out r after

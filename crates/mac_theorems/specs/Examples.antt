@@ -90,11 +90,11 @@ undefined = 0xFF ∷ 0xFF ∷ 0xFF ∷ 0xFF ∷ []
 abbrev pub item : List ℕ
 item = 0xFE ∷ 0xFF ∷ 0x00 ∷ 0xE0 ∷ []
 
-abbrev itemDelimitationItem : List ℕ
-itemDelimitationItem = 0xFE ∷ 0xFF ∷ 0x0D ∷ 0xE0 ∷ []
+abbrev itemDelimiterBytes : List ℕ
+itemDelimiterBytes = 0xFE ∷ 0xFF ∷ 0x0D ∷ 0xE0 ∷ []
 
-abbrev pub sequenceDelimitationItem : List ℕ
-sequenceDelimitationItem = 0xFE ∷ 0xFF ∷ 0xDD ∷ 0xE0 ∷ []
+abbrev pub sequenceDelimiterBytes : List ℕ
+sequenceDelimiterBytes = 0xFE ∷ 0xFF ∷ 0xDD ∷ 0xE0 ∷ []
 
 -- ---- the data sets and streams of the examples 15.5 to 15.9
 
@@ -106,11 +106,11 @@ defined = contentSequence ++ SQreserved ++ fourByteLength 0x12 ++ item ++ fourBy
 abbrev delimited : List ℕ
 delimited =
     contentSequence ++ SQreserved ++ undefined ++ item ++ undefined ++ S
-    ++ itemDelimitationItem ++ fourByteLength 0 ++ sequenceDelimitationItem ++ fourByteLength 0
+    ++ itemDelimiterBytes ++ fourByteLength 0 ++ sequenceDelimiterBytes ++ fourByteLength 0
 
 -- 15.5: "40 00 30 A7 53 51 00 00, FE FF 00 E0, S, FE FF DD E0 (26 bytes in all)"
 abbrev sequenceStream : List ℕ
-sequenceStream = contentSequence ++ SQreserved ++ item ++ S ++ sequenceDelimitationItem
+sequenceStream = contentSequence ++ SQreserved ++ item ++ S ++ sequenceDelimiterBytes
 
 -- 15.7: "The same sequence without an item"
 abbrev noItem : List ℕ
@@ -118,15 +118,15 @@ noItem = contentSequence ++ SQreserved ++ fourByteLength 0
 
 -- and this with undefined length
 abbrev noItemDelimited : List ℕ
-noItemDelimited = contentSequence ++ SQreserved ++ undefined ++ sequenceDelimitationItem ++ fourByteLength 0
+noItemDelimited = contentSequence ++ SQreserved ++ undefined ++ sequenceDelimiterBytes ++ fourByteLength 0
 
 abbrev noItemStream : List ℕ
-noItemStream = contentSequence ++ SQreserved ++ sequenceDelimitationItem
+noItemStream = contentSequence ++ SQreserved ++ sequenceDelimiterBytes
 
 -- 15.9: "E0 7F 10 00 4F 42 00 00 FF FF FF FF, once with the fragments AA BB and CC DD,
 -- once with the single fragment AA BB FE FF 00 E0 CC DD"
 abbrev fragmented : (fragments : List ℕ) → List ℕ
-fragmented fragments = pixelData ++ OBreserved ++ undefined ++ fragments ++ sequenceDelimitationItem ++ fourByteLength 0
+fragmented fragments = pixelData ++ OBreserved ++ undefined ++ fragments ++ sequenceDelimiterBytes ++ fourByteLength 0
 
 abbrev twoFragments : List ℕ
 twoFragments = fragmented (item ++ fourByteLength 2 ++ 0xAA ∷ 0xBB ∷ item ++ fourByteLength 2 ++ 0xCC ∷ 0xDD ∷ [])
@@ -135,7 +135,7 @@ abbrev oneFragment : List ℕ
 oneFragment = fragmented (item ++ fourByteLength 8 ++ 0xAA ∷ 0xBB ∷ 0xFE ∷ 0xFF ∷ 0x00 ∷ 0xE0 ∷ 0xCC ∷ 0xDD ∷ [])
 
 abbrev fragmentsStream : List ℕ
-fragmentsStream = pixelData ++ OBreserved ++ item ++ 0xAA ∷ 0xBB ∷ item ++ 0xCC ∷ 0xDD ∷ sequenceDelimitationItem
+fragmentsStream = pixelData ++ OBreserved ++ item ++ 0xAA ∷ 0xBB ∷ item ++ 0xCC ∷ 0xDD ∷ sequenceDelimiterBytes
 
 -- ---- the examples, by their numbers; the room of 32 bytes is more than enough
 unfoldable pub examples : List Example

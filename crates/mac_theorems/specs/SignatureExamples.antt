@@ -11,7 +11,7 @@ use Rattle.mac.specs.Result.{outputAfter}
 use Rattle.mac.specs.SignatureMode.{streamCall, answer, result}
 use Rattle.selection.specs.declared.select.Signature.{Signature}
 use Rattle.selection.specs.declared.select.Signature.the-variants as signature
-use Rattle.mac_theorems.specs.Examples.{untouched, A, modality, SQreserved, OBreserved, fourByteLength, item, sequenceDelimitationItem}
+use Rattle.mac_theorems.specs.Examples.{untouched, A, modality, SQreserved, OBreserved, fourByteLength, item, sequenceDelimiterBytes}
 
 pub record SignatureExample : Type 0 where
   pub uid : List ℕ
@@ -137,7 +137,7 @@ crowded =
 -- The listed element A (10 bytes); of the signature item its number (10), and (0400,0401) without lengths and without the barred element in
 -- it: tag, VR and reserved (8), the item's tag (4), (0400,0120) (14), the delimiter (4). 10 + 10 + 8 + 4 + 14 + 4 = 50 bytes.
 abbrev crowdedStream : List ℕ
-crowdedStream = A ++ macId US 1 ++ writtenSequence ++ SQreserved ++ item ++ elementOfTwoBytes 0x20 0x01 OBreserved ++ sequenceDelimitationItem
+crowdedStream = A ++ macId US 1 ++ writtenSequence ++ SQreserved ++ item ++ elementOfTwoBytes 0x20 0x01 OBreserved ++ sequenceDelimiterBytes
 
 -- ---- the examples
 

@@ -88,12 +88,17 @@ pub record ChecksAsStream : Type 0 where
       → signatureMode.answer (signatureMode.checkCall uid which set expected work)
       ≡ signatureMode.answer (signatureMode.streamCall uid which set work)
 
--- 7.9: a measuring call "has the answer that the call for the stream has with room enough"
+-- 7.9: a measuring call "has the answer that the call for the stream has with room enough", which is the length that is measured (0 for a
+-- refusal); "9 and 16 cannot come"
 pub record MeasuresAsStream : Type 0 where
-  pub of-list : (list set out : List ℕ) → length (listMode.streamIn list set) ≤ length out
+  pub of-list : (list set out : List ℕ) → listMode.measure list set .length ≤ length out
       → listMode.answer (listMode.streamCall list set out) ≡ listMode.measure list set
-  pub of-signature : (uid : List ℕ) (which : Signature) (set out : List ℕ) → length (signatureMode.streamIn uid which set) ≤ length out
+  pub of-signature : (uid : List ℕ) (which : Signature) (set out : List ℕ) → signatureMode.measure uid which set .length ≤ length out
       → signatureMode.answer (signatureMode.streamCall uid which set out) ≡ signatureMode.measure uid which set
+  pub never-9-in-list : (list set : List ℕ) → listMode.measure list set .number ≢ 9
+  pub never-16-in-list : (list set : List ℕ) → listMode.measure list set .number ≢ 16
+  pub never-9-in-signature : (uid : List ℕ) (which : Signature) (set : List ℕ) → signatureMode.measure uid which set .number ≢ 9
+  pub never-16-in-signature : (uid : List ℕ) (which : Signature) (set : List ℕ) → signatureMode.measure uid which set .number ≢ 16
 
 -- ---- the length of the stream
 

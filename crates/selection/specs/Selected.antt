@@ -12,7 +12,7 @@ use Rattle.dataset.specs.Reading.{Reading, fault, read, treeOf}
 use Rattle.dataset.specs.Extent.{elementsIn}
 use Rattle.dataset.specs.Place.{Lies}
 use Rattle.selection.specs.Selection.{refusal, selected, selectIn}
-use Rattle.selection.specs.Selection as mode
+use Rattle.selection.specs.Selection as spec
 use Rattle.selection.specs.declared.select.Algorithm.{Algorithm}
 use Rattle.selection.specs.declared.select.Algorithm.the-variants as algorithm
 use Rattle.selection.specs.declared.select.Selected.{Selected}
@@ -21,11 +21,11 @@ use Rattle.selection.specs.declared.select.Selection.the-variants as sel
 use Rattle.selection.specs.declared.select.Signature.{Signature}
 
 -- the code's cases of an algorithm (13.2)
-abbrev pub algorithmCase : mode.Algorithm → Algorithm
-algorithmCase mode.Algorithm.ofSHA256 = algorithm.Sha256
+abbrev pub algorithmCase : spec.Algorithm → Algorithm
+algorithmCase spec.Algorithm.ofSHA256 = algorithm.Sha256
 
--- the list, the algorithm, the elements es of the data set that is signed and those of the signature item are the code's `parts`
-pub record IsSelected (d list : List ℕ) (a : mode.Algorithm) (es item : Elements) (parts : Selected) : Type 0 where
+-- 8.2, 8.3: the list, the algorithm, the elements es of the data set that is signed and those of the signature item are the code's `parts`
+pub record IsSelected (d list : List ℕ) (a : spec.Algorithm) (es item : Elements) (parts : Selected) : Type 0 where
   pub order : parts .start ≤ parts .end
   pub inside : parts .end ≤ length d
   pub listed : list ≡ between d (parts .start) (parts .end)
@@ -37,11 +37,11 @@ pub record IsSelected (d list : List ℕ) (a : mode.Algorithm) (es item : Elemen
   pub item-next : ℕ
   pub item-reads : elementsIn d (parts .item) ≡ read item item-next
 
-abbrev pub SelectionAs : List ℕ → mode.Selection → Selection → Type 0
+abbrev pub SelectionAs : List ℕ → spec.Selection → Selection → Type 0
 SelectionAs d (refusal number) r = r ≡ selection.Refused (refused number 0)
 SelectionAs d (selected list a es item) r = (parts : Selected) × (r ≡ selection.Selected parts) × IsSelected d list a es item parts
 
--- in a data set of an instance, by what is read of either
-abbrev pub SelectedIn : (uid : List ℕ) (which : Signature) (d : List ℕ) (whole set : Reading Elements) → Selection → Type 0
+-- in a data set, which is `whole` or stands in it, by what is read of either
+abbrev pub SelectedIn : (uid : List ℕ) (which : Signature) (d : List ℕ) (whole signed : Reading Elements) → Selection → Type 0
 SelectedIn uid which d whole (fault f) r = r ≡ selection.Refused f
 SelectedIn uid which d whole (read es next) r = SelectionAs d (selectIn uid which (treeOf whole) d es) r

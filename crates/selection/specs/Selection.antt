@@ -103,7 +103,7 @@ badTransferSyntax uid (some value) =
 
 -- ---- the algorithm, 22
 
--- the algorithms that a signature may name
+-- the algorithms that a signature may name (22)
 pub data Algorithm : Type 0 where
   ofSHA256 : Algorithm
 
@@ -142,7 +142,7 @@ parametersSelect uid d es item parameters =
     need 23 (valueOf AT (elementOf dataElementsSigned parameters) d) λ list.
     selected list algorithm es item
 
--- "18 to 23" (9.5), in a data set whose elements are es, of an instance whose elements are `whole`. In every call the two are the same data
+-- "18 to 23" (9.5), in a data set whose elements are es, of a whole data set whose elements are `whole`. In every call the two are the same data
 -- set (`select`), and nothing here reads `whole`.
 unfoldable pub selectIn : (uid : List ℕ) → Signature → (whole : Elements) (d : List ℕ) (es : Elements) → Selection
 selectIn uid which whole d es =
@@ -151,6 +151,6 @@ selectIn uid which whole d es =
     need 20 (parametersItem id es d) λ parameters.
     parametersSelect uid d es item parameters
 
--- what a call selects, in the whole instance. 8.2: "in the top level's (FFFA,FFFA)"
+-- what a call selects, in the whole data set. 8.2: "in the top level's (FFFA,FFFA)"
 abbrev pub select : (uid : List ℕ) → Signature → (whole : Elements) (d : List ℕ) → Selection
 select uid which whole d = selectIn uid which whole d whole

@@ -1,7 +1,7 @@
-// The items of the two sequences, by their number or by their MAC ID Number: 18, 19, 20.
+// The items of the two sequences, by their number or by their MAC ID Number.
 use dataset::extent;
 use dataset::extent::Extent;
-use dataset::extent::ItemIn;
+use dataset::extent::OpenedItem;
 use dataset::seek;
 use dataset::seek::Place;
 use dataset::seek::Sought;
@@ -34,7 +34,7 @@ pub(crate) enum FoundItem {
     },
 }
 
-// Whether an element of this VR and extent is a MAC ID Number.
+// Whether an element with this VR and a value from start to end is a MAC ID Number.
 pub(crate) fn is_mac_id(vr: u16, start: usize, end: usize) -> bool
     requires { ⌜ start ≤ end ⌝ }
     ensures { λ r. ⌜ r ≡ (eqb vr US && eqb (end - start) 2) ⌝ }
@@ -72,7 +72,7 @@ fn has_key(d: &[u8], key: ItemKey, index: u64, id: Place) -> bool
     }
 }
 
-// The first item with the key. A fault cannot occur: `select` has read the whole data set.
+// The first item with the key. A fault cannot occur: `select` has read the data set that they stand in.
 fn find_item(d: &[u8], x: Extent, key: ItemKey) -> FoundItem
     requires { ⌜ Lies (now d) x × (0 < x .left) × KeyLies (now d) key ⌝ }
     ensures { λ r. ⌜ FoundItemIn (now (d .entry)) key 0 (itemsIn (now (d .entry)) x) r ⌝ }
@@ -80,10 +80,10 @@ fn find_item(d: &[u8], x: Extent, key: ItemKey) -> FoundItem
     let mut at = x.from;
     let mut index: u64 = 0;
     loop {
-        match extent::item_in(d, x, at) {
-            ItemIn::Refused(_) => return FoundItem::Absent,
-            ItemIn::End(_) => return FoundItem::Absent,
-            ItemIn::Item(inside) => {
+        match extent::open_item(d, x, at) {
+            OpenedItem::Refused(_) => return FoundItem::Absent,
+            OpenedItem::End(_) => return FoundItem::Absent,
+            OpenedItem::Item(inside) => {
                 match seek::seek(d, inside, tags::MAC_ID_NUMBER, tags::DATA_ELEMENTS_SIGNED) {
                     Sought::Refused(_) => return FoundItem::Absent,
                     Sought::Past {

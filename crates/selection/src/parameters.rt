@@ -14,11 +14,11 @@ ghost use mathlib.Core.Option.{some};
 ghost use Rattle.dataset.specs.Place.{Lies};
 ghost use Rattle.dataset.specs.Inner.Place.{PlaceLies};
 ghost use Rattle.selection.specs.Selection.{badTransferSyntax, SHA256, isTerm};
-ghost use Rattle.selection.specs.Inner.Selection.{LessNul, BadSyntax, AlgorithmOf, ListOf};
+ghost use Rattle.selection.specs.Inner.Selection.{LessNul, BadSyntax, AlgorithmOf, ParametersSelected};
 
 // The algorithm that a signature names; or none of them.
 pub(crate) enum FoundAlgorithm {
-    Absent,
+    Unknown,
     Named(Algorithm),
 }
 
@@ -86,19 +86,19 @@ fn algorithm_of(d: &[u8], p: Place) -> FoundAlgorithm
     ensures { λ r. ⌜ AlgorithmOf (now (d .entry)) p r ⌝ }
 {
     let Place::Value { vr, start, end } = p else {
-        return FoundAlgorithm::Absent;
+        return FoundAlgorithm::Unknown;
     };
     if vr != vr::CS {
-        return FoundAlgorithm::Absent;
+        return FoundAlgorithm::Unknown;
     }
     if !is_sha256(&d[start..end]) {
-        return FoundAlgorithm::Absent;
+        return FoundAlgorithm::Unknown;
     }
     FoundAlgorithm::Named(Algorithm::Sha256)
 }
 
 // 21 to 23: the algorithm and the list in the parameters item.
-pub(crate) fn list_of(
+pub(crate) fn select_parameters(
     uid: &[u8],
     d: &[u8],
     signed: Extent,
@@ -107,7 +107,7 @@ pub(crate) fn list_of(
     list: Place,
 ) -> Selection
     requires { ⌜ Lies (now d) signed × Lies (now d) item × Lies (now d) parameters × PlaceLies (now d) list ⌝ }
-    ensures { λ r. ⌜ ListOf (now (uid .entry)) (now (d .entry)) signed item parameters list r ⌝ }
+    ensures { λ r. ⌜ ParametersSelected (now (uid .entry)) (now (d .entry)) signed item parameters list r ⌝ }
 {
     let fields = seek::seek(
         d,
@@ -121,7 +121,7 @@ pub(crate) fn list_of(
         next: _,
     } = fields
     else {
-        // cannot occur: `select` has read the whole data set
+        // cannot occur: `select` has read the data set that it stands in
         return select::refused(21);
     };
     if bad_syntax(uid, d, syntax) {

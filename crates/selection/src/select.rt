@@ -99,11 +99,11 @@ fn select_from(
     else {
         return refused(20);
     };
-    parameters::list_of(uid, d, x, item, inside, list)
+    parameters::select_parameters(uid, d, x, item, inside, list)
 }
 
-// What is selected in the data set x of an instance, which is `whole`: the first fault of x, 18 to 23, or the list, the algorithm, the data set
-// and the signature item.
+// What is selected in the data set x, which is `whole` or stands in it: the first fault of x, 18 to 23, or the list, the algorithm, the data set
+// and the signature item. The size is not tested: `reading::size_answer` comes before.
 pub fn select(uid: &[u8], which: Signature, d: &[u8], whole: Extent, x: Extent) -> Selection
     ensures { λ r. ⌜ SelectedIn (now (uid .entry)) which (now (d .entry)) (elementsIn (now (d .entry)) whole) (elementsIn (now (d .entry)) x) r ⌝ }
 {

@@ -65,7 +65,7 @@ pub record StreamWalk (list d : List ℕ) (x : Extent) (item : SignatureItem) (r
   pub output : StreamLeaves (tagsIn list) d item (elementsIn d x) before after
   pub short : r .length ≤ length d + length d
 
--- ---- measuring: 10 to 15, and the stream's length
+-- ---- measuring: 10 to 12, the fault of the reading, 13 to 15, or the stream's length
 
 abbrev pub measureIn : (list d : List ℕ) → Extent → SignatureItem → Answer
 measureIn list d x item = listAnswer list orElse walkAnswer (tagsIn list) d item (elementsIn d x)

@@ -15,7 +15,7 @@ use Rattle.dataset.specs.Reading.{Reading, fault, read}
 use Rattle.dataset.specs.Lookup.{elementOf}
 use Rattle.selection.specs.Selection.{itemsOf, valueOf, firstItem, itemWhere, twoBytes, macIdOf, isId, lessNul, badTransferSyntax, algorithmOf, parametersSelect, selectIn}
 use Rattle.dataset.specs.Tags.{macIdNumber, dataElementsSigned, macParametersSequence, digitalSignaturesSequence}
-use Rattle.selection.specs.Selection as mode
+use Rattle.selection.specs.Selection as spec
 use Rattle.selection.specs.Selected.{algorithmCase, SelectionAs}
 use Rattle.dataset.specs.Place.{Lies, Placed}
 use Rattle.dataset.specs.Extent.{elementsIn}
@@ -93,8 +93,8 @@ abbrev pub BadSyntax : (uid d : List ℕ) → Place → Bool → Type 0
 BadSyntax uid d p r = Tests Bool UI (badTransferSyntax uid) d p r
 
 -- the code's cases
-abbrev pub foundCase : Option mode.Algorithm → FoundAlgorithm
-foundCase Opt.none = foundAlgorithm.Absent
+abbrev pub foundCase : Option spec.Algorithm → FoundAlgorithm
+foundCase Opt.none = foundAlgorithm.Unknown
 foundCase (some a) = foundAlgorithm.Named (algorithmCase a)
 
 abbrev pub AlgorithmOf : List ℕ → Place → FoundAlgorithm → Type 0
@@ -103,7 +103,7 @@ AlgorithmOf d p r = Tests FoundAlgorithm CS (λ value. foundCase (algorithmOf va
 -- ---- what is selected
 
 -- by the extents of the data set that is signed, of the signature item and of the parameters item, and the place of the list in the latter
-pub record ListOf (uid d : List ℕ) (signed item parameters : Extent) (list : Place) (r : Selection) : Type 0 where
+pub record ParametersSelected (uid d : List ℕ) (signed item parameters : Extent) (list : Place) (r : Selection) : Type 0 where
   pub says : (es is ps : Elements) (k n m : ℕ) → elementsIn d signed ≡ read es k → elementsIn d item ≡ read is n → elementsIn d parameters ≡ read ps m
       → Placed d (elementOf dataElementsSigned ps) list → SelectionAs d (parametersSelect uid d es is ps) r
 

@@ -1,4 +1,4 @@
--- The items of an extent from an offset on, by what `item_in` answers there. Assumes nothing.
+-- The items of an extent from an offset on, by what `open_item` answers there. Assumes nothing.
 use Prim.Native.Nat.{ℕ, _≤_, _<_}
 use mathlib.Core.Path.{_≡_, refl, sym, ap, _∙_}
 use mathlib.Core.Bool.{true, true≢false}
@@ -9,12 +9,12 @@ use Rattle.answer.specs.declared.Answer.{Answer}
 use Rattle.dataset.specs.Header.{ItemHeader, faultAt, itemAt}
 use Rattle.dataset.specs.Tree.{Elements, Items}
 use Rattle.dataset.specs.Reading.{Reading, fault, read, _>>=_, explicit, byItem, elementsAt, itemsAt, deeper}
-use Rattle.dataset.specs.Extent.{ItemIn, elementsIn, itemInBy, itemIn, itemInCase}
+use Rattle.dataset.specs.Extent.{OpenedItem, elementsIn, openedBy, openedItem, openedCase}
 use Rattle.dataset.specs.Place.{Lies}
 use Rattle.dataset.specs.Inner.Outcomes.{outcomeOf}
 use Rattle.dataset.specs.declared.extent.Extent.{Extent}
-use Rattle.dataset.specs.declared.extent.ItemIn as itemEnum
-use Rattle.dataset.specs.declared.extent.ItemIn.the-variants as itemPlace
+use Rattle.dataset.specs.declared.extent.OpenedItem as itemEnum
+use Rattle.dataset.specs.declared.extent.OpenedItem.the-variants as opened
 use Rattle.dataset.proofs.laws.header.HeaderFacts.{ItemFacts, ItemSpan, item-facts}
 use Rattle.dataset.proofs.laws.reading.Bounded.{explicit-bounded}
 use Rattle.dataset.proofs.laws.reading.Unfolding.{items-are}
@@ -31,12 +31,12 @@ record IsRefused (p : ItemHeader) (f : Answer) : Type 0 where
   pub is : p ≡ ItemHeader.refused number position
   pub fault-is : faultAt number position ≡ f
 
-is-refused : (left : ℕ) (p : ItemHeader) (f : Answer) → itemInBy left p ≡ ItemIn.refused f → IsRefused p f
+is-refused : (left : ℕ) (p : ItemHeader) (f : Answer) → openedBy left p ≡ OpenedItem.refused f → IsRefused p f
 is-refused left (ItemHeader.refused number position) f q = record { number = number; position = position; is = refl; fault-is = cc }
 is-refused left (ItemHeader.ends n) f q = absurd (true≢false (cc))
 is-refused left (ItemHeader.item start end inner) f q = absurd (true≢false (cc))
 
-is-end : (left : ℕ) (p : ItemHeader) (next : ℕ) → itemInBy left p ≡ ItemIn.ends next → p ≡ ItemHeader.ends next
+is-end : (left : ℕ) (p : ItemHeader) (next : ℕ) → openedBy left p ≡ OpenedItem.ends next → p ≡ ItemHeader.ends next
 is-end left (ItemHeader.refused number position) next q = absurd (true≢false (cc))
 is-end left (ItemHeader.ends n) next q = let k : n ≡ next = cc in ap ItemHeader.ends k
 is-end left (ItemHeader.item start end inner) next q = absurd (true≢false (cc))
@@ -45,37 +45,37 @@ record IsItem (left : ℕ) (p : ItemHeader) (inside : Extent) : Type 0 where
   pub is : p ≡ ItemHeader.item (inside .from) (inside .stop) (inside .delimited)
   pub deep : inside .left ≡ deeper left
 
-is-item : (left : ℕ) (p : ItemHeader) (inside : Extent) → itemInBy left p ≡ ItemIn.item inside → IsItem left p inside
+is-item : (left : ℕ) (p : ItemHeader) (inside : Extent) → openedBy left p ≡ OpenedItem.item inside → IsItem left p inside
 is-item left (ItemHeader.refused number position) inside q = absurd (true≢false (cc))
 is-item left (ItemHeader.ends n) inside q = absurd (true≢false (cc))
 is-item left (ItemHeader.item start end inner) inside q =
     let k : record { delimited = inner; left = deeper left; stop = end; from = start } ≡ inside = cc in
     rw (← k) record { is = refl; deep = refl }
 
--- ---- what is read from `at` on: r is what `item_in` answers there
-module _ (d : List ℕ) (x : Extent) (at : ℕ) (r : itemEnum.ItemIn) (e : itemInCase r ≡ itemIn d x at) where
-  answered : (p : itemEnum.ItemIn) → r ≡ p → itemInBy (x .left) (itemAt d true (x .delimited) (x .stop) at) ≡ itemInCase p
-  unfolding itemIn
-  answered p q = sym e ∙ ap itemInCase q
+-- ---- what is read from `at` on: r is what `open_item` answers there
+module _ (d : List ℕ) (x : Extent) (at : ℕ) (r : itemEnum.OpenedItem) (e : openedCase r ≡ openedItem d x at) where
+  answered : (p : itemEnum.OpenedItem) → r ≡ p → openedBy (x .left) (itemAt d true (x .delimited) (x .stop) at) ≡ openedCase p
+  unfolding openedItem
+  answered p q = sym e ∙ ap openedCase q
 
   module _ (h : at ≤ x .stop) where
     items-by : (p : ItemHeader) → itemAt d true (x .delimited) (x .stop) at ≡ p
         → itemsFrom d x at ≡ byItem (λ inner end start. elementsAt explicit d inner (deeper (x .left)) end start 0) (itemsFrom d x) at p
     items-by p q = rw (items-are explicit explicit-bounded d (x .delimited) (x .left) (x .stop) at h, q)
 
-    pub items-refused : (f : Answer) → r ≡ itemPlace.Refused f → itemsFrom d x at ≡ fault f
+    pub items-refused : (f : Answer) → r ≡ opened.Refused f → itemsFrom d x at ≡ fault f
     unfolding byItem
     items-refused f q =
-        let k = is-refused (x .left) (itemAt d true (x .delimited) (x .stop) at) f (answered (itemPlace.Refused f) q) in
+        let k = is-refused (x .left) (itemAt d true (x .delimited) (x .stop) at) f (answered (opened.Refused f) q) in
         items-by (ItemHeader.refused (k .number) (k .position)) (k .is) ∙ ap fault (k .fault-is)
 
-    pub items-end : (next : ℕ) → r ≡ itemPlace.End next → itemsFrom d x at ≡ read Items.last next
+    pub items-end : (next : ℕ) → r ≡ opened.End next → itemsFrom d x at ≡ read Items.last next
     unfolding byItem
-    items-end next q = items-by (ItemHeader.ends next) (is-end (x .left) (itemAt d true (x .delimited) (x .stop) at) next (answered (itemPlace.End next) q))
+    items-end next q = items-by (ItemHeader.ends next) (is-end (x .left) (itemAt d true (x .delimited) (x .stop) at) next (answered (opened.End next) q))
 
-  module _ (inside : Extent) (q : r ≡ itemPlace.Item inside) where
+  module _ (inside : Extent) (q : r ≡ opened.Item inside) where
     it : IsItem (x .left) (itemAt d true (x .delimited) (x .stop) at) inside
-    it = is-item (x .left) (itemAt d true (x .delimited) (x .stop) at) inside (answered (itemPlace.Item inside) q)
+    it = is-item (x .left) (itemAt d true (x .delimited) (x .stop) at) inside (answered (opened.Item inside) q)
 
     item-span : ItemSpan d (x .stop) at (inside .from) (inside .stop) (inside .delimited)
     item-span =

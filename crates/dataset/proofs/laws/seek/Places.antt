@@ -61,20 +61,20 @@ module _ (d : List ℕ) (x : Extent) (at least : ℕ) (inside : x .stop ≤ leng
   -- the items of a sequence, by its header
   items-placed : (start stop next : ℕ) (is : Items) (inner : Bool) (n : ℕ) → HeaderExtent n (x .stop) start stop inner → 0 < x .left → 8 ≤ start → start ≤ stop → stop ≤ x .stop
       → itemsAt explicit d inner (x .left) stop start ≡ read is next
-      → (y : Extent) × (placeBy x SQ start (if inner then next - 8 else next) next ≡ place.Items y) × ItemsAre d is y
+      → (y : Extent) × (placeBy x SQ start (if inner then next - 8 else next) next ≡ place.Items y) × ItemsAre d (span start (if inner then next - 8 else next)) is y
   unfolding if_then_else_
   items-placed start stop next is true n h l k o u w =
       let m = items-next d (x .left) stop start next o true (sym (ap outcomeOf w)) in
       let s = h .1 in (
         record { delimited = true; left = x .left; stop = x .stop; from = start },
         sym (delimited-place x SQ start (next - 8) next refl (λ z. omega (arith, m))),
-        record { lies = record { order = omega arith; inside = inside }; level = l; next = next; reads = rw (← s) w },
+        record { lies = record { order = omega arith; inside = inside }; level = l; starts = refl; next = next; reads = rw (← s) w; ends = refl },
       )
   items-placed start stop next is false n h l k o u w =
       let s = items-filled d (x .left) stop start is next w in (
         record { delimited = false; left = x .left; stop = next; from = start },
         sym (defined-place x SQ start next next refl refl),
-        record { lies = record { order = omega arith; inside = omega arith }; level = l; next = next; reads = rw s (rw s at w) },
+        record { lies = record { order = omega arith; inside = omega arith }; level = l; starts = refl; next = next; reads = rw s (rw s at w); ends = refl },
       )
 
   by-header : (e : Element) (next : ℕ) (h : ElementHeader) → ElementFacts d (x .delimited) (x .left) (x .stop) at least h

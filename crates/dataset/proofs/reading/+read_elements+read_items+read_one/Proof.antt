@@ -1,5 +1,5 @@
 -- The cycle of calls. Levels fall: 3 left + 2 for the reader of elements, 3 left + 1 for that of one element, 3 left for that of items.
--- Each place is a law of proofs/Steps.antt or proofs/OneSteps.antt, which `search` applies to the facts there. Assumes nothing.
+-- Each place is a law of Loops or OneElement, which `search` applies to the facts there. Assumes nothing.
 use borrow.Author.Needs.{needs}
 use Prim.Native.Nat.{ℕ, _+_, _-_, _*_, _<_}
 use mathlib.Core.Path.{refl}

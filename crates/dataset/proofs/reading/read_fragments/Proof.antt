@@ -1,4 +1,4 @@
--- `read_fragments` meets its contract: the invariant is `FragmentsLoop`, and each turn is a law of proofs/Steps.antt. Assumes nothing.
+-- `read_fragments` meets its contract: the invariant is `FragmentsLoop`, and each turn is a law of Loops. Assumes nothing.
 use borrow.Author.Needs.{needs}
 use Prim.Native.Nat.{_-_}
 use mathlib.Core.Path.{refl}

@@ -6,15 +6,18 @@ use mathlib.Core.Bool.{false}
 use mathlib.Core.List.{List}
 use mathlib.Core.Option.{some}
 use mathlib.Core.Option as Opt
+use native.Mathlib.Omega.{arith}
 use lib.ListN.{length}
 use borrow.Author.Tests.{eq-eqb, le-ltb}
 use Rattle.answer.specs.declared.Answer.{Answer}
 use Rattle.answer.specs.Answer.{accepted, _orElse_}
+use Rattle.answer.proofs.laws.Chain.{or-else-second, or-else-same}
 use Rattle.mac.specs.Modes.{badDigestLength, answerFrom9}
 use Rattle.mac.specs.ListMode as listMode
 use Rattle.mac.specs.SignatureMode as signatureMode
 use Rattle.mac.proofs.laws.modes.AnswersFrom9.{from9-accepted}
-use Rattle.mac_theorems.specs.Theorems.{ChecksAsStream, MeasuresAsStream}
+use Rattle.selection.specs.declared.select.Signature.{Signature}
+use Rattle.mac_theorems.specs.Theorems.{ChecksAsStream}
 
 module _ (e : List ℕ) (h : length e ≡ 32) where
   good-length : badDigestLength (some e) ≡ false
@@ -31,13 +34,19 @@ checks-as-stream = record {
   of-signature = λ uid which set e work h. as-stream e h (signatureMode.answerTo15 uid which set) (signatureMode.streamIn uid which set) (length work);
 }
 
-measured : (first : Answer) (stream : List ℕ) (room : ℕ) → length stream ≤ room → (first orElse answerFrom9 stream room Opt.none) ≡ (first orElse accepted (length stream))
-measured first stream room h =
-    ap (λ (a : Answer). first orElse a) (from9-accepted stream room Opt.none (record { digest = refl; fits = le-ltb room (length stream) h }))
+-- ---- measuring, with as much room as is measured
+measured : (first : Answer) (stream : List ℕ) (room : ℕ) → (first orElse accepted (length stream)) .length ≤ room
+    → (first orElse answerFrom9 stream room Opt.none) ≡ (first orElse accepted (length stream))
+measured first stream room h = or-else-same first _ _ λ z.
+    let n = ap (λ (a : Answer). a .length) (or-else-second first (accepted (length stream)) z) in
+    from9-accepted stream room Opt.none (record { digest = refl; fits = le-ltb room (length stream) (omega arith) })
 
-pub measures-as-stream : MeasuresAsStream
-unfolding listMode.answer listMode.measure signatureMode.answer signatureMode.measure
-measures-as-stream = record {
-  of-list = λ list set out. measured (listMode.answerTo15 list set) (listMode.streamIn list set) (length out);
-  of-signature = λ uid which set out. measured (signatureMode.answerTo15 uid which set) (signatureMode.streamIn uid which set) (length out);
-}
+pub list-measured : (list set out : List ℕ) → listMode.measure list set .length ≤ length out
+    → listMode.answer (listMode.streamCall list set out) ≡ listMode.measure list set
+unfolding listMode.answer listMode.measure
+list-measured list set out = measured (listMode.answerTo15 list set) (listMode.streamIn list set) (length out)
+
+pub signature-measured : (uid : List ℕ) (which : Signature) (set out : List ℕ) → signatureMode.measure uid which set .length ≤ length out
+    → signatureMode.answer (signatureMode.streamCall uid which set out) ≡ signatureMode.measure uid which set
+unfolding signatureMode.answer signatureMode.measure
+signature-measured uid which set out = measured (signatureMode.answerTo15 uid which set) (signatureMode.streamIn uid which set) (length out)

@@ -14,8 +14,8 @@ abbrev μ-loop : tie.MeasureT-loop
 loop-holds : tie.Need-loop-holds Inv-loop μ-loop
 loop-holds c = search steps.find-item-start
 
-item-in-requires : tie.Need-item-in-requires Inv-loop μ-loop
-item-in-requires c κs = search needs
+open-item-requires : tie.Need-open-item-requires Inv-loop μ-loop
+open-item-requires c κs = search needs
 
 enum-told : tie.Need-enum-told Inv-loop μ-loop
 enum-told c = search needs
@@ -66,7 +66,7 @@ find-item-spec =
     Inv-loop
     μ-loop
     loop-holds
-    item-in-requires
+    open-item-requires
     enum-told
     returns
     enum-told-2

@@ -10,12 +10,12 @@ use Rattle.dataset.specs.Tags.{macIdNumber, dataElementsSigned}
 use Rattle.dataset.specs.Tree.{Elements, Items}
 use Rattle.dataset.specs.Reading.{Reading, fault, read, _>>=_}
 use Rattle.dataset.specs.Lookup.{elementOf}
-use Rattle.dataset.specs.Extent.{elementsIn, itemsIn, itemIn, itemInCase}
+use Rattle.dataset.specs.Extent.{elementsIn, itemsIn, openedItem, openedCase}
 use Rattle.dataset.specs.Place.{Lies, SoughtIn}
 use Rattle.dataset.specs.Inner.Place.{PlaceLies}
 use Rattle.dataset.specs.declared.extent.Extent.{Extent}
-use Rattle.dataset.specs.declared.extent.ItemIn.{ItemIn}
-use Rattle.dataset.specs.declared.extent.ItemIn.the-variants as item
+use Rattle.dataset.specs.declared.extent.OpenedItem.{OpenedItem}
+use Rattle.dataset.specs.declared.extent.OpenedItem.the-variants as item
 use Rattle.dataset.specs.declared.seek.Place.{Place}
 use Rattle.dataset.specs.declared.seek.Sought.{Sought}
 use Rattle.dataset.specs.declared.seek.Sought.the-variants as sought
@@ -51,7 +51,7 @@ module _ (d : List ℕ) (w : ItemKey) (at index : ℕ) (es : Elements) (z : Foun
   passed (read rest n) t h = rw t h
 
 -- ---- a turn of the loop: r is what stands at `at`
-module _ (d : List ℕ) (x : Extent) (at : ℕ) (r : ItemIn) (e : itemInCase r ≡ itemIn d x at) (w : ItemKey) (index : ℕ) (i : FindItemLoop d x w at index) where
+module _ (d : List ℕ) (x : Extent) (at : ℕ) (r : OpenedItem) (e : openedCase r ≡ openedItem d x at) (w : ItemKey) (index : ℕ) (i : FindItemLoop d x w at index) where
   pub find-item-refused : (f : Answer) → r ≡ item.Refused f → FoundItemIn d w 0 (itemsIn d x) found.Absent
   find-item-refused f q = i .on found.Absent (rw (items-refused d x at r e (i .inside) f q) tt)
 

@@ -1,4 +1,4 @@
--- What 21 to 23 give, place by place of `list_of`, with the facts of the place as premises. Assumes nothing.
+-- What 21 to 23 give, place by place of `select_parameters`, with the facts of the place as premises. Assumes nothing.
 use Prim.Native.Nat.{ℕ}
 use mathlib.Core.Path.{_≡_, refl, sym, _∙_}
 use mathlib.Core.Bool.{Bool, true, false}
@@ -15,11 +15,11 @@ use Rattle.dataset.specs.Reading.{read}
 use Rattle.dataset.specs.Lookup.{elementOf}
 use Rattle.selection.specs.Selection.{valueOf, badTransferSyntax, algorithmOf, need, selected, parametersSelect}
 use Rattle.dataset.specs.Tags.{macCalculationTransferSyntaxUid, macAlgorithm, dataElementsSigned}
-use Rattle.selection.specs.Selection as mode
+use Rattle.selection.specs.Selection as spec
 use Rattle.dataset.specs.Extent.{elementsIn}
 use Rattle.dataset.specs.Place.{Lies, SoughtAs, SoughtIn}
 use Rattle.dataset.specs.Inner.Place.{PlaceLies}
-use Rattle.selection.specs.Inner.Selection.{BadSyntax, foundCase, AlgorithmOf, ListOf}
+use Rattle.selection.specs.Inner.Selection.{BadSyntax, foundCase, AlgorithmOf, ParametersSelected}
 use Rattle.selection.specs.Selected.{algorithmCase}
 use Rattle.dataset.specs.declared.extent.Extent.{Extent}
 use Rattle.dataset.specs.declared.seek.Place.{Place}
@@ -34,16 +34,16 @@ use Rattle.selection.specs.declared.select.Selection.the-variants as sel
 use Rattle.selection.proofs.laws.PlaceValues.{never, placed-first, placed-second, NoValue, no-value, value-order, value-inside, value-at}
 
 -- the algorithm that the code has named
-record NamedBy (o : Option mode.Algorithm) (a : Algorithm) : Type 0 where
-  algorithm : mode.Algorithm
+record NamedBy (o : Option spec.Algorithm) (a : Algorithm) : Type 0 where
+  algorithm : spec.Algorithm
   same : o ≡ some algorithm
   case : a ≡ algorithmCase algorithm
 
-not-named : (o : Option mode.Algorithm) → foundAlgorithm.Absent ≡ foundCase o → o ≡ Opt.none
+not-named : (o : Option spec.Algorithm) → foundAlgorithm.Unknown ≡ foundCase o → o ≡ Opt.none
 not-named Opt.none e = refl
 not-named (some b) e = never (cc)
 
-named-by : (o : Option mode.Algorithm) (a : Algorithm) → foundAlgorithm.Named a ≡ foundCase o → NamedBy o a
+named-by : (o : Option spec.Algorithm) (a : Algorithm) → foundAlgorithm.Named a ≡ foundCase o → NamedBy o a
 named-by Opt.none a e = never (cc)
 named-by (some b) a e = record { algorithm = b; same = refl; case = cc }
 
@@ -64,16 +64,16 @@ module _ (uid d : List ℕ) (signed signature parameters : Extent) (list : Place
       algorithm-is : (o : FoundAlgorithm) → AlgorithmOf d second o → o ≡ foundCase (algorithmOf (valueOf CS (elementOf macAlgorithm ps) d))
       algorithm-is o g = g .says _ (placed-second d _ _ ps m f fields first second next is)
 
-  pub list-fault : (a : Answer) (r : Selection) → f ≡ sought.Refused a → ListOf uid d signed signature parameters list r
+  pub list-fault : (a : Answer) (r : Selection) → f ≡ sought.Refused a → ParametersSelected uid d signed signature parameters list r
   list-fault a r is = record { says = λ es parts ps k n m u x y q. never (no-fault ps m y a is) }
 
   module _ (first second : Place) (next : ℕ) (is : f ≡ sought.Past first second next) (b : Bool) (g : BadSyntax uid d first b) where
-    pub list-syntax : (r : Selection) → b ≡ true → r ≡ selection.Refused (refused 21 0) → ListOf uid d signed signature parameters list r
+    pub list-syntax : (r : Selection) → b ≡ true → r ≡ selection.Refused (refused 21 0) → ParametersSelected uid d signed signature parameters list r
     unfolding parametersSelect if_then_else_
     list-syntax r t w = record { says = λ es parts ps k n m u x y q. rw (syntax-is ps m y first second next is b g, t) w }
 
     module _ (t : b ≡ false) (o : FoundAlgorithm) (h : AlgorithmOf d second o) where
-      pub list-algorithm : (r : Selection) → o ≡ foundAlgorithm.Absent → r ≡ selection.Refused (refused 22 0) → ListOf uid d signed signature parameters list r
+      pub list-algorithm : (r : Selection) → o ≡ foundAlgorithm.Unknown → r ≡ selection.Refused (refused 22 0) → ParametersSelected uid d signed signature parameters list r
       unfolding parametersSelect if_then_else_
       list-algorithm r v w =
           record {
@@ -91,12 +91,12 @@ module _ (uid d : List ℕ) (signed signature parameters : Extent) (list : Place
         unfolding parametersSelect if_then_else_
         rest es parts ps m y = rw (syntax-is ps m y first second next is b g ∙ t, named ps m y .same)
 
-        pub list-none : (r : Selection) → NoValue list → r ≡ selection.Refused (refused 23 0) → ListOf uid d signed signature parameters list r
+        pub list-none : (r : Selection) → NoValue list → r ≡ selection.Refused (refused 23 0) → ParametersSelected uid d signed signature parameters list r
         list-none r z w =
             record { says = λ es parts ps k n m u x y q. rw (rest es parts ps m y, no-value d list AT (elementOf dataElementsSigned ps) z q) w }
 
         module _ (vr start end : ℕ) (j : list ≡ place.Value vr start end) where
-          pub list-other : (r : Selection) → (vr ≡ AT → ⊥) → r ≡ selection.Refused (refused 23 0) → ListOf uid d signed signature parameters list r
+          pub list-other : (r : Selection) → (vr ≡ AT → ⊥) → r ≡ selection.Refused (refused 23 0) → ParametersSelected uid d signed signature parameters list r
           unfolding if_then_else_
           list-other r z w =
               record {
@@ -105,7 +105,7 @@ module _ (uid d : List ℕ) (signed signature parameters : Extent) (list : Place
               }
 
           pub list-selected : vr ≡ AT → Lies d signed → Lies d signature → PlaceLies d list
-              → ListOf uid d signed signature parameters list (selection.Selected (record { start = start; end = end; algorithm = a; signed = signed; item = signature }))
+              → ParametersSelected uid d signed signature parameters list (selection.Selected (record { start = start; end = end; algorithm = a; signed = signed; item = signature }))
           unfolding if_then_else_
           list-selected z l l′ p =
               record {

@@ -77,7 +77,7 @@ module _ (value : List ℕ) (b : Bool) (e : b ≡ sameBytes (take 6 value) SHA25
   term-spaces r t w = rw (← e, t) (w ∙ ap (allAre 0x20) (take-all (length value - 6) (drop 6 value) (simp length-drop (omega arith))))
 
 module _ (value : List ℕ) (b : Bool) (e : b ≡ isTerm SHA256 value) where
-  pub term-unknown : b ≡ false → foundAlgorithm.Absent ≡ foundCase (algorithmOf (some value))
+  pub term-unknown : b ≡ false → foundAlgorithm.Unknown ≡ foundCase (algorithmOf (some value))
   unfolding algorithmOf if_then_else_
   term-unknown t = rw (← e, t)
 

@@ -20,7 +20,7 @@ use Rattle.dataset.specs.Tags.{macIdNumber, dataElementsSigned, macParametersSe
 use Rattle.dataset.specs.Extent.{elementsIn}
 use Rattle.dataset.specs.Place.{Lies, Placed, SoughtIn}
 use Rattle.dataset.specs.Inner.Place.{PlaceLies, Located}
-use Rattle.selection.specs.Inner.Selection.{hasKey, keyOf, FoundItemAs, FoundItemUnder, ListOf, SelectOf}
+use Rattle.selection.specs.Inner.Selection.{hasKey, keyOf, FoundItemAs, FoundItemUnder, ParametersSelected, SelectOf}
 use Rattle.selection.specs.Selected.{SelectedIn}
 use Rattle.dataset.specs.declared.extent.Extent.{Extent}
 use Rattle.dataset.specs.declared.seek.Place.{Place}
@@ -150,7 +150,7 @@ module _ (uid : List ℕ) (which : Signature) (d : List ℕ) (x : Extent) (param
         select-no-parameters r j w =
             record { says = λ whole es n u p q. rw (on whole es q, picked-none d c (parametersItem (between d start end) es d) (second es p) j) w }
 
-        pub select-list : (inside : Extent) (other listed : Place) (r : Selection) → c ≡ found.Item inside other listed → ListOf uid d x extent inside listed r
+        pub select-list : (inside : Extent) (other listed : Place) (r : Selection) → c ≡ found.Item inside other listed → ParametersSelected uid d x extent inside listed r
             → SelectOf uid which d x parameters signatures r
         select-list inside other listed r j w = record {
           says = λ whole es n u p q.

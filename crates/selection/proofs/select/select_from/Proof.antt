@@ -58,8 +58,8 @@ refused-requires-4 c κs = search needs
 returns-4 : tie.Need-returns-4
 returns-4 c = search (steps.select-no-parameters, not-false)
 
-list-of-requires : tie.Need-list-of-requires
-list-of-requires c κs = (search needs, search steps.item-lies, search steps.item-lies, search steps.item-list)
+select-parameters-requires : tie.Need-select-parameters-requires
+select-parameters-requires c κs = (search needs, search steps.item-lies, search steps.item-lies, search steps.item-list)
 
 returns-5 : tie.Need-returns-5
 returns-5 c = search (steps.select-list, not-false)
@@ -85,5 +85,5 @@ select-from-spec =
     enum-told-2
     refused-requires-4
     returns-4
-    list-of-requires
+    select-parameters-requires
     returns-5)

@@ -1,9 +1,9 @@
--- `list_of` meets its contract: each place by its law in Parameters. Assumes nothing.
+-- `select_parameters` meets its contract: each place by its law in Parameters. Assumes nothing.
 use Rattle.selection.proofs.laws.PlaceValues as places
 use Rattle.selection.proofs.laws.parameters.Parameters as steps
 use borrow.Author.Needs.{needs}
-use Rattle.selection.proofs.parameters.list_of.Statement.{statement}
-use Rattle.selection.proofs.parameters.list_of.Tie as tie
+use Rattle.selection.proofs.parameters.select_parameters.Statement.{statement}
+use Rattle.selection.proofs.parameters.select_parameters.Tie as tie
 
 seek-requires : tie.Need-seek-requires
 seek-requires c κs = search needs
@@ -62,8 +62,8 @@ returns-5 c = search steps.list-other
 returns-6 : tie.Need-returns-6
 returns-6 c = search steps.list-selected
 
-pub list-of-spec : {M : Type 1} → statement M
-list-of-spec =
+pub select-parameters-spec : {M : Type 1} → statement M
+select-parameters-spec =
     tie.close
     (tie.spec
     seek-requires

@@ -1,8 +1,8 @@
--- `item_in` meets its contract: each place by its law in OneItem. Assumes nothing.
+-- `open_item` meets its contract: each place by its law in OneItem. Assumes nothing.
 use Rattle.dataset.proofs.laws.extent.OneItem as steps
 use borrow.Author.Needs.{needs}
-use Rattle.dataset.proofs.extent.item_in.Statement.{statement}
-use Rattle.dataset.proofs.extent.item_in.Tie as tie
+use Rattle.dataset.proofs.extent.open_item.Statement.{statement}
+use Rattle.dataset.proofs.extent.open_item.Tie as tie
 
 item-header-requires : tie.Need-item-header-requires
 item-header-requires c κs = search needs
@@ -31,8 +31,8 @@ returns-2 c = search steps.item-ends
 returns-3 : tie.Need-returns-3
 returns-3 c = search steps.item-lies
 
-pub item-in-spec : {M : Type 1} → statement M
-item-in-spec =
+pub open-item-spec : {M : Type 1} → statement M
+open-item-spec =
     tie.close
     (tie.spec
     item-header-requires
