@@ -34,6 +34,10 @@ pub fn calls(case: &Case, random: &mut Random) -> Vec<Call> {
             let check = call_signature_check(*room, expected, uid, *which, data, random);
             vec![measure, stream, check]
         }
+        Case::ListMeasure { list, data } => call_list_measure(list, data, random).into(),
+        Case::SignatureMeasure { uid, which, data } => {
+            call_signature_measure(uid, *which, data, random).into()
+        }
         Case::Digest { parts } => call_digest(parts, random),
         Case::Feed { state, bytes } => vec![call_feed(state, bytes, random)],
         Case::Finish { state } => vec![call_finish(state, random)],

@@ -32,6 +32,8 @@ pub enum Case {
         which: Option<usize>,
         data: Vec<u8>,
     },
+    ListMeasure { list: Vec<u8>, data: Vec<u8> },
+    SignatureMeasure { uid: Vec<u8>, which: Option<usize>, data: Vec<u8> },
     Frame { input: Vec<u8> },
     /// A digest fed in parts from the start.
     Digest { parts: Vec<Vec<u8>> },
@@ -87,6 +89,14 @@ impl Case {
                 which: read_which(which)?,
                 data: read_bytes(data)?,
             },
+            (b"list-measure", &[list, data]) => {
+                Case::ListMeasure { list: read_bytes(list)?, data: read_bytes(data)? }
+            }
+            (b"signature-measure", &[uid, which, data]) => Case::SignatureMeasure {
+                uid: read_bytes(uid)?,
+                which: read_which(which)?,
+                data: read_bytes(data)?,
+            },
             _ => return None,
         })
     }
@@ -116,6 +126,23 @@ impl Case {
             Case::Lookup { tag, data } => {
                 format!("lookup {} {}", write_tag(*tag), write_bytes(data))
             }
+            Case::Frame { input } => format!("frame {}", write_bytes(input)),
+            Case::Digest { parts } => {
+                let parts: Vec<String> = parts.iter().map(|part| write_bytes(part)).collect();
+                format!("digest {}", parts.join(" "))
+            }
+            Case::Feed { state, bytes } => {
+                format!("feed {} {}", write_state(state), write_bytes(bytes))
+            }
+            Case::Finish { state } => format!("finish {}", write_state(state)),
+            _ => self.write_mode(),
+        };
+        format!("{name} {fields}")
+    }
+
+    /// The fields of a case of list mode or signature mode.
+    fn write_mode(&self) -> String {
+        match self {
             Case::List { room, list, data } => {
                 format!("list {room} {} {}", write_bytes(list), write_bytes(data))
             }
@@ -138,17 +165,17 @@ impl Case {
                 write_which(*which),
                 write_bytes(data)
             ),
-            Case::Frame { input } => format!("frame {}", write_bytes(input)),
-            Case::Digest { parts } => {
-                let parts: Vec<String> = parts.iter().map(|part| write_bytes(part)).collect();
-                format!("digest {}", parts.join(" "))
+            Case::ListMeasure { list, data } => {
+                format!("list-measure {} {}", write_bytes(list), write_bytes(data))
             }
-            Case::Feed { state, bytes } => {
-                format!("feed {} {}", write_state(state), write_bytes(bytes))
-            }
-            Case::Finish { state } => format!("finish {}", write_state(state)),
-        };
-        format!("{name} {fields}")
+            Case::SignatureMeasure { uid, which, data } => format!(
+                "signature-measure {} {} {}",
+                write_bytes(uid),
+                write_which(*which),
+                write_bytes(data)
+            ),
+            _ => unreachable!("of no mode"),
+        }
     }
 }
 
@@ -210,6 +237,8 @@ mod tests {
                 which: Some(usize::MAX),
                 data: vec![],
             },
+            Case::ListMeasure { list: vec![], data: data.clone() },
+            Case::SignatureMeasure { uid: vec![], which: Some(1), data: data.clone() },
             Case::Frame { input: data.clone() },
             Case::Digest { parts: vec![data.clone(), vec![], vec![9; 70]] },
             Case::Feed { state, bytes: data },

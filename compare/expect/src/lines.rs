@@ -40,6 +40,10 @@ fn printed(case: &Case) -> Vec<u8> {
                 expected_digest(expected, || signature_mode::stream(data, uid, *which, *room));
             check_line(signature_mode::check(data, uid, *which, &expected, *room))
         }
+        Case::ListMeasure { list, data } => line(list_mode::measure(data, list).to_string()),
+        Case::SignatureMeasure { uid, which, data } => {
+            line(signature_mode::measure(data, uid, *which).to_string())
+        }
         Case::Frame { input } => [b"\n".to_vec(), frame::run(input).text].concat(),
         Case::Digest { parts } => {
             let fed = parts

@@ -10,6 +10,8 @@
 //   NAME list-check ROOM EXPECTED LIST DATA              prints NAME NUMBER POSITION LENGTH neither|same|differs
 //   NAME signature ROOM UID WHICH DATA                   prints as list does; WHICH is a number in decimal, or none
 //   NAME signature-check ROOM EXPECTED UID WHICH DATA    prints as list-check does
+//   NAME list-measure LIST DATA                          prints NAME NUMBER POSITION LENGTH
+//   NAME signature-measure UID WHICH DATA                prints as list-measure does
 //   NAME frame INPUT                                     prints NAME, a newline, and what the stream program prints for the input
 mod bytes;
 mod calls;
