@@ -53,13 +53,17 @@ unfoldable pub selectionAnswer : Selection → Answer
 selectionAnswer (refusal number) = refused number 0
 selectionAnswer (selected list algorithm es item) = listAnswer list orElse tagsAnswer 0 (tagsIn list) es
 
+-- what is selected in a data set: "18 to 23" (9.5)
+abbrev pub selectionIn : (uid : List ℕ) (which : Signature) (set : List ℕ) → Selection
+selectionIn uid which set = select uid which (tree set) set
+
 -- the stream of a signature in a data set
 unfoldable pub streamIn : (uid : List ℕ) (which : Signature) (set : List ℕ) → List ℕ
-streamIn uid which set = streamBy (select uid which (tree set) set) set
+streamIn uid which set = streamBy (selectionIn uid which set) set
 
 -- 9.5 up to 15: "1; 2 to 8; 18 to 23; 10; 11; 12; then for each tag in turn 13, 14, 15". 1 stands in `dataSet`.
 unfoldable pub answerTo15 : (uid : List ℕ) (which : Signature) (set : List ℕ) → Answer
-answerTo15 uid which set = answerOf (dataSet set) orElse selectionAnswer (select uid which (tree set) set)
+answerTo15 uid which set = answerOf (dataSet set) orElse selectionAnswer (selectionIn uid which set)
 
 -- 7.9, what a measuring call answers: the order up to 15; or else "with number 0 the length is the stream's"
 unfoldable pub measure : (uid : List ℕ) (which : Signature) (set : List ℕ) → Answer
@@ -77,9 +81,9 @@ pub record Call : Type 0 where
   pub room : ℕ
   pub expected : Option (List ℕ)
 
--- what the call selects: "18 to 23" (9.5)
+-- what the call selects
 abbrev pub selection : Call → Selection
-selection c = select (c .uid) (c .which) (tree (c .set)) (c .set)
+selection c = selectionIn (c .uid) (c .which) (c .set)
 
 -- the call's stream
 abbrev pub stream : Call → List ℕ

@@ -11,7 +11,6 @@ use dataset::seek::Sought;
 use dataset::tags;
 ghost use mathlib.Core.Path.{_≡_};
 ghost use Rattle.answer.specs.Answer as Spec;
-ghost use Rattle.dataset.specs.Extent.{elementsIn};
 ghost use Rattle.dataset.specs.Place.{Lies};
 ghost use Rattle.dataset.specs.Inner.Place.{Located};
 ghost use Rattle.selection.specs.Selected.{SelectedIn};
@@ -105,7 +104,7 @@ fn select_from(
 // What is selected in the data set x, which is `whole` or stands in it: the first fault of x, 18 to 23, or the list, the algorithm, the data set
 // and the signature item. The size is not tested: `reading::size_answer` comes before.
 pub fn select(uid: &[u8], which: Signature, d: &[u8], whole: Extent, x: Extent) -> Selection
-    ensures { λ r. ⌜ SelectedIn (now (uid .entry)) which (now (d .entry)) (elementsIn (now (d .entry)) whole) (elementsIn (now (d .entry)) x) r ⌝ }
+    ensures { λ r. ⌜ SelectedIn (now (uid .entry)) which (now (d .entry)) whole x r ⌝ }
 {
     match seek::seek(
         d,

@@ -105,10 +105,10 @@ AlgorithmOf d p r = Tests FoundAlgorithm CS (λ value. foundCase (algorithmOf va
 -- by the extents of the data set that is signed, of the signature item and of the parameters item, and the place of the list in the latter
 pub record ParametersSelected (uid d : List ℕ) (signed item parameters : Extent) (list : Place) (r : Selection) : Type 0 where
   pub says : (es is ps : Elements) (k n m : ℕ) → elementsIn d signed ≡ read es k → elementsIn d item ≡ read is n → elementsIn d parameters ≡ read ps m
-      → Placed d (elementOf dataElementsSigned ps) list → SelectionAs d (parametersSelect uid d es is ps) r
+      → Placed d (elementOf dataElementsSigned ps) list → SelectionAs d signed (parametersSelect uid d es is ps) r
 
 -- by the extent of the data set that is signed and the places of the two sequences in it
 pub record SelectOf (uid : List ℕ) (which : Signature) (d : List ℕ) (signed : Extent) (parameters signatures : Place) (r : Selection) : Type 0 where
   pub says : (whole es : Elements) (n : ℕ) → elementsIn d signed ≡ read es n
       → Placed d (elementOf macParametersSequence es) parameters → Placed d (elementOf digitalSignaturesSequence es) signatures
-      → SelectionAs d (selectIn uid which whole d es) r
+      → SelectionAs d signed (selectIn uid which whole d es) r

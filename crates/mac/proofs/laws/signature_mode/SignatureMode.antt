@@ -26,7 +26,7 @@ use Rattle.mac.specs.SignatureMode.{own, streamBy, selectionAnswer, stre
 use Rattle.dataset.specs.Place.{Lies}
 use Rattle.dataset.specs.Extent.{elementsIn, wholeOf}
 use Rattle.mac.specs.Inner.Own.{ownStream}
-use Rattle.selection.specs.Selected.{IsSelected, SelectionAs, SelectedIn}
+use Rattle.selection.specs.Selected.{IsSelected, SelectionAs, SelectedBy, SelectedIn}
 use Rattle.mac.specs.Inner.Verdict.{CheckOf, lengthOf}
 use Rattle.mac.specs.Inner.Calls.{ItemReads, wholeStream, walkAnswer, measureIn, Measures, AnsweredFrom9, signatureCall, CallAnswered, listIn, SignatureMeasures, SignatureRefused, SignatureMeasured}
 use Rattle.dataset.specs.declared.extent.Extent.{Extent}
@@ -46,7 +46,7 @@ use Rattle.mac.proofs.laws.modes.Measuring.{measures}
 use Rattle.selection.proofs.laws.select.SelectionNumbers.{selected-number}
 
 -- ---- what is selected, where the data set is read as p
-pub record Picked (uid : List ℕ) (which : Signature) (d : List ℕ) (p : Reading Elements) (s : Selected) : Type 0 where
+pub record Picked (uid : List ℕ) (which : Signature) (d : List ℕ) (x : Extent) (p : Reading Elements) (s : Selected) : Type 0 where
   pub elements : Elements
   pub next : ℕ
   pub reads : p ≡ read elements next
@@ -54,16 +54,16 @@ pub record Picked (uid : List ℕ) (which : Signature) (d : List ℕ) (p : Readi
   pub signed : Elements
   pub item : Elements
   pub selects : select uid which elements d ≡ selected (listIn d s) algorithm signed item
-  pub parts : IsSelected d (listIn d s) algorithm signed item s
+  pub parts : IsSelected d x (listIn d s) algorithm signed item s
 
-module _ (uid : List ℕ) (which : Signature) (d : List ℕ) (r : Selection) (s : Selected) (e : r ≡ selection.Selected s) where
-  picked-by : (es : Elements) (n : ℕ) (m : mode.Selection) → select uid which es d ≡ m → SelectionAs d m r → Picked uid which d (read es n) s
+module _ (uid : List ℕ) (which : Signature) (d : List ℕ) (r : Selection) (s : Selected) (e : r ≡ selection.Selected s) (x : Extent) where
+  picked-by : (es : Elements) (n : ℕ) (m : mode.Selection) → select uid which es d ≡ m → SelectionAs d x m r → Picked uid which d x (read es n) s
   unfolding between
   picked-by es n (refusal k) q h = absurd (true≢false (cc))
   picked-by es n (selected list a signed item) q h =
       let u = h .1 in
       let v : h .0 ≡ s = cc in
-      let parts : IsSelected d list a signed item s = rw v at (h .2) in
+      let parts : IsSelected d x list a signed item s = rw v at (h .2) in
       record {
         elements = es;
         next = n;
@@ -75,12 +75,12 @@ module _ (uid : List ℕ) (which : Signature) (d : List ℕ) (r : Selection) (s 
         parts = rw (parts .listed) at parts;
       }
 
-  pub picked : (p : Reading Elements) → SelectedIn uid which d p p r → Picked uid which d p s
+  pub picked : (p : Reading Elements) → SelectedBy uid which d (treeOf p) x p r → Picked uid which d x p s
   picked (fault f) h = absurd (true≢false (cc))
   picked (read es n) h = picked-by es n (select uid which es d) refl h
 
-  module _ (x : Extent) (h : SelectedIn uid which d (elementsIn d x) (elementsIn d x) r) where
-    chosen : Picked uid which d (elementsIn d x) s
+  module _ (h : SelectedIn uid which d x x r) where
+    chosen : Picked uid which d x (elementsIn d x) s
     chosen = picked (elementsIn d x) h
 
     pub picked-order : s .start ≤ s .end
@@ -113,13 +113,13 @@ module _ (uid : List ℕ) (which : Signature) (d : List ℕ) where
   pub signature-over : (a : Answer) → a ≡ sizeAnswer d → (a .number ≡ 0 → ⊥) → SignatureMeasured uid which d (measured.Refused a)
   signature-over a e h = refused-as a a refl h (measure-fault a (size-refused d a e h) h)
 
-  module _ (h : length d ≤ sizeLimit) (x : Extent) (w : x ≡ wholeOf (length d)) (r : Selection) (t : SelectedIn uid which d (elementsIn d x) (elementsIn d x) r) where
+  module _ (h : length d ≤ sizeLimit) (x : Extent) (w : x ≡ wholeOf (length d)) (r : Selection) (t : SelectedIn uid which d x x r) where
     whole : elementsIn d x ≡ dataSet d
     whole = rw w (sym (data-set-is d h))
 
     -- ---- the selection refuses
     module _ (f : Answer) (e : r ≡ selection.Refused f) where
-      by-selection : (es : Elements) (n : ℕ) → dataSet d ≡ read es n → (m : mode.Selection) → select uid which es d ≡ m → SelectionAs d m r → SignatureMeasured uid which d (measured.Refused f)
+      by-selection : (es : Elements) (n : ℕ) → dataSet d ≡ read es n → (m : mode.Selection) → select uid which es d ≡ m → SelectionAs d x m r → SignatureMeasured uid which d (measured.Refused f)
       unfolding selectionAnswer
       by-selection es n q (refusal k) m s =
           let z : refused k 0 .number ≡ 0 → ⊥ = selected-number uid which es d k m in
@@ -127,7 +127,7 @@ module _ (uid : List ℕ) (which : Signature) (d : List ℕ) where
           (sym (measure-by (read es n) q (refusal k) m ∙ ap (λ (a : Answer). a orElse accepted (length (streamBy (refusal k) d))) (or-else-second (accepted 0) _ refl) ∙ or-else-first (refused k 0) _ z))
       by-selection es n q (selected list a signed item) m s = let u = s .1 in absurd (true≢false (cc))
 
-      by-reading : (p : Reading Elements) → dataSet d ≡ p → SelectedIn uid which d p p r → SignatureMeasured uid which d (measured.Refused f)
+      by-reading : (p : Reading Elements) → dataSet d ≡ p → SelectedBy uid which d (treeOf p) x p r → SignatureMeasured uid which d (measured.Refused f)
       by-reading (fault g) q s =
           let n : g .number ≡ 0 → ⊥ = λ z. omega (arith, faults-inside d g q .least) in
           refused-as f g (cc) n (measure-fault g q n)
@@ -144,8 +144,8 @@ module _ (uid : List ℕ) (which : Signature) (d : List ℕ) where
       abbrev after : SignatureItem
       after = signatureItem.Item (s .item)
 
-      g : Picked uid which d (elementsIn d x) s
-      g = picked uid which d r s e (elementsIn d x) t
+      g : Picked uid which d x (elementsIn d x) s
+      g = picked uid which d r s e x (elementsIn d x) t
 
       abbrev what : mode.Selection
       what = selected list (g .algorithm) (g .signed) (g .item)

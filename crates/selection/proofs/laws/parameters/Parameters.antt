@@ -118,6 +118,7 @@ module _ (uid d : List ℕ) (signed signature parameters : Extent) (list : Place
                         inside = value-inside d list vr start end j p;
                         listed = refl;
                         algorithm = named ps m y .case;
+                        signed = refl;
                         lies = l;
                         next = k;
                         reads = u;

@@ -21,7 +21,7 @@ use Rattle.dataset.specs.Extent.{elementsIn}
 use Rattle.dataset.specs.Place.{Lies, Placed, SoughtIn}
 use Rattle.dataset.specs.Inner.Place.{PlaceLies, Located}
 use Rattle.selection.specs.Inner.Selection.{hasKey, keyOf, FoundItemAs, FoundItemUnder, ParametersSelected, SelectOf}
-use Rattle.selection.specs.Selected.{SelectedIn}
+use Rattle.selection.specs.Selected.{SelectedBy, SelectedIn}
 use Rattle.dataset.specs.declared.extent.Extent.{Extent}
 use Rattle.dataset.specs.declared.seek.Place.{Place}
 use Rattle.dataset.specs.declared.seek.Place.the-variants as place
@@ -161,18 +161,18 @@ module _ (uid : List ℕ) (which : Signature) (d : List ℕ) (x : Extent) (param
 
 -- ---- in an extent of an instance, which is `whole`
 module _ (uid : List ℕ) (which : Signature) (d : List ℕ) (whole x : Extent) (f : Sought) (s : SoughtIn d macParametersSequence digitalSignaturesSequence (elementsIn d x) f) where
-  pub select-fault : (a : Answer) → f ≡ sought.Refused a → SelectedIn uid which d (elementsIn d whole) (elementsIn d x) (selection.Refused a)
+  pub select-fault : (a : Answer) → f ≡ sought.Refused a → SelectedIn uid which d whole x (selection.Refused a)
   select-fault a is = by-reading (elementsIn d x) s
     where
-      by-reading : (z : Reading Elements) → SoughtIn d macParametersSequence digitalSignaturesSequence z f → SelectedIn uid which d (elementsIn d whole) z (selection.Refused a)
+      by-reading : (z : Reading Elements) → SoughtIn d macParametersSequence digitalSignaturesSequence z f → SelectedBy uid which d (treeOf (elementsIn d whole)) x z (selection.Refused a)
       by-reading (fault b) k = cc
       by-reading (read es n) k = never (cc (k .is))
 
   pub select-rest : (first second : Place) (next : ℕ) (r : Selection) → f ≡ sought.Past first second next → SelectOf uid which d x first second r
-      → SelectedIn uid which d (elementsIn d whole) (elementsIn d x) r
+      → SelectedIn uid which d whole x r
   select-rest first second next r is g = by-reading (elementsIn d x) refl s
     where
-      by-reading : (z : Reading Elements) → elementsIn d x ≡ z → SoughtIn d macParametersSequence digitalSignaturesSequence z f → SelectedIn uid which d (elementsIn d whole) z r
+      by-reading : (z : Reading Elements) → elementsIn d x ≡ z → SoughtIn d macParametersSequence digitalSignaturesSequence z f → SelectedBy uid which d (treeOf (elementsIn d whole)) x z r
       by-reading (fault b) e k = never (cc)
       by-reading (read es n) e k =
           g .says (treeOf (elementsIn d whole)) es n e (placed-first d _ _ es n f k first second next is) (placed-second d _ _ es n f k first second next is)
