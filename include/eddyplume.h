@@ -72,8 +72,8 @@ void eddyplume_list_stream(const uint8_t *list, size_t list_len, const uint8_t *
                            uint8_t *out, size_t out_len, uint64_t answer[3]);
 
 /*
- * List mode: the answer of eddyplume_list_stream with room enough, so that the length of the stream is known before there is an output.
- * list, data and answer as there; nothing else is written.
+ * List mode: the answer of eddyplume_list_stream with room enough, so that the length of the stream is known before there is an output;
+ * 16 does not come. list, data and answer as there; nothing else is written.
  */
 void eddyplume_list_measure(const uint8_t *list, size_t list_len, const uint8_t *data, size_t data_len, uint64_t answer[3]);
 
@@ -98,7 +98,7 @@ void eddyplume_list_check(const uint8_t *list, size_t list_len, const uint8_t *d
 void eddyplume_signature_stream(const uint8_t *uid, size_t uid_len, bool numbered, uint64_t number,
                                 const uint8_t *data, size_t data_len, uint8_t *out, size_t out_len, uint64_t answer[3]);
 
-/* Signature mode: the answer of eddyplume_signature_stream with room enough. uid, numbered, number, data and answer as there. */
+/* Signature mode: the answer of eddyplume_signature_stream with room enough. uid, numbered, number, data and answer as there; nothing else is written. */
 void eddyplume_signature_measure(const uint8_t *uid, size_t uid_len, bool numbered, uint64_t number,
                                  const uint8_t *data, size_t data_len, uint64_t answer[3]);
 

@@ -1,4 +1,4 @@
--- `write_fragments` meets its contract: each place by its law in FragmentsSteps. Assumes nothing.
+-- `write_fragments` meets its contract: each place by its law in FragmentsLoop. Assumes nothing.
 use Rattle.mac.proofs.laws.writer.FragmentsLoop as steps
 use borrow.Author.Needs.{needs}
 use Prim.Native.Nat.{_-_}

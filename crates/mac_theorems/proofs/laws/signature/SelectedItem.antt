@@ -1,5 +1,5 @@
--- What signature mode selects: a refusal of 18 to 23, or a list, an algorithm, the data set and the signature item. The stream of this item's elements is no longer
--- than that of (FFFA,FFFA). Assumes nothing.
+-- What signature mode selects: a refusal of 18 to 23, or a list, an algorithm, the data set and the signature item. The stream of this item's
+-- elements is no longer than that of (FFFA,FFFA). Assumes nothing.
 use Prim.Native.Nat.{ℕ, _+_, _≤_}
 use mathlib.Core.Path.{_≡_, refl}
 use mathlib.Core.Bool.{Bool, true, false, true≢false}
