@@ -5,8 +5,10 @@
 use Prim.Native.Nat.{ℕ}
 use mathlib.Core.Bool.{true, false}
 use mathlib.Core.List.{List}
+use Rattle.slices.specs.If.{if_then_else_}
 use Rattle.answer.specs.declared.Answer.{Answer}
-use Rattle.dataset.specs.Header.{ItemHeader, faultAt, itemAt}
+use Rattle.answer.specs.Answer.{accepted}
+use Rattle.dataset.specs.Header.{ItemHeader, faultAt, outside, itemAt}
 use Rattle.dataset.specs.Tree.{Elements, Items}
 use Rattle.dataset.specs.Reading.{Reading, explicit, elementsAt, itemsAt, levels, deeper}
 use Rattle.dataset.specs.declared.extent.Extent.{Extent}
@@ -23,6 +25,10 @@ itemsIn d x = itemsAt explicit d (x .delimited) (x .left) (x .stop) (x .from)
 -- 2.10: "or else the whole data set"
 abbrev pub wholeOf : (size : ℕ) → Extent
 wholeOf size = record { delimited = false; left = levels; stop = size; from = 0 }
+
+-- Of no rule (docs/DECISIONS.md, R11): an extent that does not lie inside the data has too few bytes, 2 at its start
+unfoldable pub outsideAnswer : List ℕ → Extent → Answer
+outsideAnswer d x = if outside d (x .stop) (x .from) then faultAt 2 (x .from) else accepted 0
 
 -- In an item's place: a refusal; the end of the items, with the offset of what follows them; or an item, by the extent of its data set.
 pub data OpenedItem : Type 0 where

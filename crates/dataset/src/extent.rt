@@ -4,7 +4,7 @@ use crate::header::ItemHeader;
 use crate::reading;
 use answer::Answer;
 ghost use mathlib.Core.Path.{_≡_};
-ghost use Rattle.dataset.specs.Extent.{wholeOf, openedItem, openedCase};
+ghost use Rattle.dataset.specs.Extent.{wholeOf, outsideAnswer, openedItem, openedCase};
 
 // From `from` up to `stop`, or to a delimiter before it; `left` levels of sequences may follow.
 pub struct Extent {
@@ -34,6 +34,16 @@ pub fn whole(size: usize) -> Extent
         stop: size,
         from: 0,
     }
+}
+
+// 2, where an extent does not lie inside the data. Whoever reads in an extent that a caller gives asks this first.
+pub fn outside_answer(d: &[u8], x: Extent) -> Answer
+    ensures { λ r. ⌜ r ≡ outsideAnswer (now (d .entry)) x ⌝ }
+{
+    if header::is_outside(d, x.stop, x.from) {
+        return header::fault(2, x.from);
+    }
+    Answer::accepted(0)
 }
 
 // What stands at `at` in an item's place, among items that lie in x.

@@ -1,6 +1,6 @@
 // What stands under two tags of a data set.
+use crate::extent;
 use crate::extent::Extent;
-use crate::header;
 use crate::reading;
 use crate::reading::OneOutcome;
 use crate::vr;
@@ -126,8 +126,9 @@ fn seek_in(d: &[u8], x: Extent, first: u32, second: u32) -> Sought
 pub fn seek(d: &[u8], x: Extent, first: u32, second: u32) -> Sought
     ensures { λ r. ⌜ SoughtIn (now (d .entry)) first second (elementsIn (now (d .entry)) x) r ⌝ }
 {
-    if header::is_outside(d, x.stop, x.from) {
-        return Sought::Refused(header::fault(2, x.from));
+    let outside = extent::outside_answer(d, x);
+    if outside.number != 0 {
+        return Sought::Refused(outside);
     }
     seek_in(d, x, first, second)
 }

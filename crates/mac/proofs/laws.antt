@@ -1,9 +1,5 @@
-pub mod keep
+pub mod AnswersFrom9
+pub mod EitherCall
 pub mod list_mode
-pub mod listed
-pub mod modes
-pub mod own
 pub mod signature_mode
-pub mod tag_list
 pub mod verdict
-pub mod writer

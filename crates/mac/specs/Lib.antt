@@ -1,7 +1,3 @@
-pub mod TagList
-pub mod Content
-pub mod Stream
-pub mod UN
 pub mod Modes
 pub mod Result
 pub mod ListMode

@@ -10,10 +10,11 @@ use lib.ListN.{length}
 use Rattle.answer.specs.declared.Answer.{Answer}
 use Rattle.answer.specs.Answer.{accepted, _orElse_}
 use Rattle.dataset.specs.Reading.{sizeAnswer, dataSet, answerOf, tree}
-use Rattle.mac.specs.TagList.{tagsIn, listAnswer}
-use Rattle.mac.specs.Content.{SignedElements, content}
-use Rattle.mac.specs.Stream.{listedStream}
-use Rattle.mac.specs.Modes.{tagsAnswer, answerFrom9}
+use Rattle.stream.specs.TagList.{tagsIn, listAnswer}
+use Rattle.stream.specs.Content.{SignedElements, content}
+use Rattle.stream.specs.Stream.{listedStream}
+use Rattle.stream.specs.Listed.{tagsAnswer}
+use Rattle.mac.specs.Modes.{answerFrom9}
 use Rattle.mac.specs.Result.{Result}
 
 -- A call in list mode, for the stream or for the check: the list, the data set, the output room (a term of RULES 7.2: "how many bytes the

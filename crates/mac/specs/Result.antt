@@ -3,16 +3,16 @@
 use Prim.Native.Nat.{ℕ}
 use mathlib.Core.Path.{_≡_}
 use mathlib.Core.Bool.{Bool}
-use mathlib.Core.List.{List, _++_}
+use mathlib.Core.List.{List}
 use mathlib.Core.Option.{Option, some}
 use mathlib.Core.Option as Opt
 use lib.Dec.{eqb}
-use lib.ListN.{length, drop}
 use Rattle.slices.specs.If.{if_then_else_}
 use Rattle.answer.specs.declared.Answer.{Answer}
 use Rattle.slices.specs.Lists.{OfBytes, sameBytes}
 use Rattle.digest.specs.Message.{digestOf}
 use Rattle.digest.specs.Sha256.{sha256}
+use Rattle.stream.specs.Walk.{leftIn}
 use Rattle.mac.specs.declared.verdict.Verdict.{Verdict}
 use Rattle.mac.specs.declared.verdict.Verdict.the-variants as verdict
 use Rattle.mac.specs.declared.verdict.Checked.{Checked}
@@ -27,10 +27,9 @@ pub record Result : Type 0 where
 abbrev pub isAccepted : Result → Bool
 isAccepted c = eqb (c .answer .number) 0
 
--- what is left in the output or work buffer `out`. 7.3: "An accepted call puts the stream at the start of the output and changes no later
--- byte; .. A refused call changes no byte of the output". 7.4, of a check: "7.3 holds of its work buffer in place of an output."
+-- what is left in the output or work buffer `out`: 7.3, 7.4
 unfoldable pub outputAfter : Result → (out : List ℕ) → List ℕ
-outputAfter c out = if isAccepted c then c .stream ++ drop (length (c .stream)) out else out
+outputAfter c out = leftIn (c .answer) (c .stream) out
 
 -- what a check says, as a number; a call for the stream says neither
 abbrev pub neither : ℕ

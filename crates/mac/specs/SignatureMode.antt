@@ -1,52 +1,28 @@
--- Signature mode, a term of docs/RULES.md, 1.1: "for one of the signatures in the data set". What follows the listed elements in the stream
--- (8.4, 8.5), the order of the numbers (9.5), and the call.
+-- Signature mode, a term of docs/RULES.md, 1.1: "for one of the signatures in the data set". Its stream (8.4), the order of the
+-- numbers (9.5), and the call.
 -- Assumes nothing.
 use Prim.Native.Nat.{ℕ}
-use mathlib.Core.Bool.{Bool, _||_}
-use mathlib.Core.List.{List, [], _++_}
+use mathlib.Core.List.{List, []}
 use mathlib.Core.Option.{Option, some}
 use mathlib.Core.Option as Opt
-use lib.Dec.{eqb}
 use lib.ListN.{length}
-use Rattle.slices.specs.If.{if_then_else_}
 use Rattle.answer.specs.declared.Answer.{Answer}
 use Rattle.answer.specs.Answer.{accepted, refused, _orElse_}
-use Rattle.dataset.specs.Tags.{certificateOfSigner, signatureValue, certifiedTimestampType, certifiedTimestamp}
-use Rattle.dataset.specs.Tree.{Element, Elements, tagOf}
-use Rattle.dataset.specs.Reading.{dataSet, answerOf, tree}
-use Rattle.mac.specs.TagList.{barred, tagsIn, listAnswer}
-use Rattle.mac.specs.Stream.{elementsStream, listedStream}
-use Rattle.mac.specs.UN.{isUN, holdsUN}
-use Rattle.mac.specs.Modes.{tagsAnswer, answerFrom9}
-use Rattle.mac.specs.Result.{Result}
+use Rattle.dataset.specs.Reading.{sizeAnswer, dataSet, answerOf, tree}
 use Rattle.selection.specs.Selection.{Selection, refusal, selected, select}
 use Rattle.selection.specs.declared.select.Signature.{Signature}
-
--- ---- the signature item's own elements
-
--- the four named tags, 8.4: "(0400,0115), (0400,0120), (0400,0305) and (0400,0310)"
-unfoldable pub named : (tag : ℕ) → Bool
-named tag = eqb tag certificateOfSigner || (eqb tag signatureValue || (eqb tag certifiedTimestampType || eqb tag certifiedTimestamp))
-
--- 8.4: "Left out are (0400,0115), .., barred elements, UN elements, and sequences with a UN in them, however deep.": inside a barred
--- element too, as for 15
-unfoldable pub leftOut : Element → Bool
-leftOut e = named (tagOf e) || (barred (tagOf e) || (isUN e || holdsUN e))
-
--- 8.4: "the signature item's own elements": those that are not left out. 8.5: "The four tags named in 8.4 are left out only among the
--- signature item's own elements, not deeper.": inside its sequences they are written. (Barred elements inside its sequences are left out by
--- `elementsStream`.)
-unfoldable pub own : Elements → Elements
-own Elements.none = Elements.none
-own (Elements.and e rest) = if leftOut e then own rest else Elements.and e (own rest)
+use Rattle.stream.specs.TagList.{tagsIn, listAnswer}
+use Rattle.stream.specs.Listed.{tagsAnswer}
+use Rattle.stream.specs.Walk.{signedStream}
+use Rattle.mac.specs.Modes.{answerFrom9}
+use Rattle.mac.specs.Result.{Result}
 
 -- ---- what is written
 
--- the stream, by what is selected. 8.4: "After the listed elements the stream goes on with the signature item's own elements, by
--- section 5."
+-- the stream, by what is selected: 8.4
 unfoldable pub streamBy : Selection → (d : List ℕ) → List ℕ
 streamBy (refusal number) d = []
-streamBy (selected list algorithm es item) d = listedStream (tagsIn list) es d ++ elementsStream (own item) d
+streamBy (selected list algorithm es item) d = signedStream (tagsIn list) es item d
 
 -- 9.5 from 18 on, up to 15: "18 to 23; 10; 11; 12; then for each tag in turn 13, 14, 15"
 unfoldable pub selectionAnswer : Selection → Answer
@@ -61,9 +37,9 @@ selectionIn uid which set = select uid which (tree set) set
 unfoldable pub streamIn : (uid : List ℕ) (which : Signature) (set : List ℕ) → List ℕ
 streamIn uid which set = streamBy (selectionIn uid which set) set
 
--- 9.5 up to 15: "1; 2 to 8; 18 to 23; 10; 11; 12; then for each tag in turn 13, 14, 15". 1 stands in `dataSet`.
+-- 9.5 up to 15: "1; 2 to 8; 18 to 23; 10; 11; 12; then for each tag in turn 13, 14, 15". 1 stands in `dataSet` too.
 unfoldable pub answerTo15 : (uid : List ℕ) (which : Signature) (set : List ℕ) → Answer
-answerTo15 uid which set = answerOf (dataSet set) orElse selectionAnswer (selectionIn uid which set)
+answerTo15 uid which set = sizeAnswer set orElse answerOf (dataSet set) orElse selectionAnswer (selectionIn uid which set)
 
 -- 7.9, what a measuring call answers: the order up to 15; or else "with number 0 the length is the stream's"
 unfoldable pub measure : (uid : List ℕ) (which : Signature) (set : List ℕ) → Answer

@@ -1,12 +1,12 @@
 // List mode: the stream from a list of tags alone, its measuring, and the check of its digest.
-use crate::modes;
-use crate::modes::SignatureItem;
 use crate::verdict;
 use crate::verdict::Checked;
 use crate::verdict::ExpectedLength;
 use answer::Answer;
 use dataset::extent;
 use dataset::reading;
+use stream::walk;
+use stream::walk::SignatureItem;
 ghost use mathlib.Core.Path.{_≡_};
 ghost use Rattle.digest.specs.Message.{limit};
 ghost use Rattle.mac.specs.Result.{Streamed, CheckedAs};
@@ -21,28 +21,21 @@ pub fn list_measure(list: &[u8], d: &[u8]) -> Answer
     if size.number != 0 {
         return size;
     }
-    let x = extent::whole(d.len());
-    modes::measure(list, d, x, SignatureItem::Absent)
+    let whole = extent::whole(d.len());
+    walk::measure(list, d, whole, SignatureItem::Absent)
 }
 
 // The answer of a call, by the length of its expected digest; where it is accepted the stream is written.
 fn list_call(list: &[u8], d: &[u8], expected: ExpectedLength, out: &mut [u8]) -> Answer
     ensures { λ r. ⌜ CallAnswered (listCall (now (list .entry)) (now (d .entry)) (now (out .entry))) expected limit (now (out .entry)) r (now (out .exit)) ⌝ }
 {
-    let answer = list_measure(list, d);
-    if answer.number != 0 {
-        return answer;
+    let size = reading::size_answer(d);
+    if size.number != 0 {
+        return size;
     }
-    let x = extent::whole(d.len());
-    modes::answer_from_9(
-        list,
-        d,
-        x,
-        SignatureItem::Absent,
-        answer.length,
-        expected,
-        out,
-    )
+    let whole = extent::whole(d.len());
+    let later = verdict::length_answer(expected);
+    walk::write(list, d, whole, SignatureItem::Absent, later, out)
 }
 
 // The stream of a list in a data set, into the output.

@@ -1,6 +1,4 @@
 // Signature mode: the stream of a signature in the data set, its measuring, and the check of its digest.
-use crate::modes;
-use crate::modes::SignatureItem;
 use crate::verdict;
 use crate::verdict::Checked;
 use crate::verdict::ExpectedLength;
@@ -8,57 +6,42 @@ use answer::Answer;
 use dataset::extent;
 use dataset::reading;
 use selection::select;
-use selection::select::Selected;
 use selection::select::Selection;
 use selection::select::Signature;
+use stream::walk;
+use stream::walk::SignatureItem;
 ghost use mathlib.Core.Path.{_≡_};
-ghost use Rattle.mac.specs.Result.{Streamed, CheckedAs};
 ghost use Rattle.digest.specs.Message.{limit};
+ghost use Rattle.mac.specs.Result.{Streamed, CheckedAs};
 ghost use Rattle.mac.specs.SignatureMode.{measure, streamCall, checkCall, result};
-ghost use Rattle.mac.specs.Inner.Calls.{SignatureMeasured, signatureCall, CallAnswered};
+ghost use Rattle.mac.specs.Inner.Calls.{SignatureSelected, signatureCall, CallAnswered};
 
-// What is measured: a refusal; or what is selected, and the answer with the length of its stream.
-enum Measured {
-    Refused(Answer),
-    Accepted { selected: Selected, answer: Answer },
-}
-
-// Selects and measures: 1 to 8, 18 to 23, 10 to 15.
-fn measure_selected(uid: &[u8], which: Signature, d: &[u8]) -> Measured
-    ensures { λ r. ⌜ SignatureMeasured (now (uid .entry)) which (now (d .entry)) r ⌝ }
+// What is selected in a whole data set; or 1 to 8, 18 to 23.
+fn select_in(uid: &[u8], which: Signature, d: &[u8]) -> Selection
+    ensures { λ r. ⌜ SignatureSelected (now (uid .entry)) which (now (d .entry)) r ⌝ }
 {
     let size = reading::size_answer(d);
     if size.number != 0 {
-        return Measured::Refused(size);
+        return Selection::Refused(size);
     }
     let whole = extent::whole(d.len());
-    match select::select(uid, which, d, whole, whole) {
-        Selection::Refused(answer) => Measured::Refused(answer),
-        Selection::Selected(selected) => {
-            let start = selected.start;
-            let end = selected.end;
-            let signed = selected.signed;
-            let item = selected.item;
-            let own = SignatureItem::Item(item);
-            let answer = modes::measure(&d[start..end], d, signed, own);
-            if answer.number != 0 {
-                return Measured::Refused(answer);
-            }
-            Measured::Accepted { selected, answer }
-        }
-    }
+    select::select(uid, which, d, whole, whole)
 }
 
 // Measures the stream of a signature in a data set: the answer of a call for the stream with room enough. Nothing is written.
 pub fn signature_measure(uid: &[u8], which: Signature, d: &[u8]) -> Answer
     ensures { λ r. ⌜ r ≡ measure (now (uid .entry)) which (now (d .entry)) ⌝ }
 {
-    match measure_selected(uid, which, d) {
-        Measured::Refused(answer) => answer,
-        Measured::Accepted {
-            selected: _,
-            answer,
-        } => answer,
+    match select_in(uid, which, d) {
+        Selection::Refused(answer) => answer,
+        Selection::Selected(selected) => {
+            let start = selected.start;
+            let end = selected.end;
+            let signed = selected.signed;
+            let inside = selected.item;
+            let item = SignatureItem::Item(inside);
+            walk::measure(&d[start..end], d, signed, item)
+        }
     }
 }
 
@@ -72,15 +55,16 @@ fn signature_call(
 ) -> Answer
     ensures { λ r. ⌜ CallAnswered (signatureCall (now (uid .entry)) which (now (d .entry)) (now (out .entry))) expected limit (now (out .entry)) r (now (out .exit)) ⌝ }
 {
-    match measure_selected(uid, which, d) {
-        Measured::Refused(answer) => answer,
-        Measured::Accepted { selected, answer } => {
+    match select_in(uid, which, d) {
+        Selection::Refused(answer) => answer,
+        Selection::Selected(selected) => {
             let start = selected.start;
             let end = selected.end;
             let signed = selected.signed;
-            let item = selected.item;
-            let own = SignatureItem::Item(item);
-            modes::answer_from_9(&d[start..end], d, signed, own, answer.length, expected, out)
+            let inside = selected.item;
+            let item = SignatureItem::Item(inside);
+            let later = verdict::length_answer(expected);
+            walk::write(&d[start..end], d, signed, item, later, out)
         }
     }
 }

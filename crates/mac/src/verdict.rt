@@ -6,7 +6,7 @@ ghost use mathlib.Core.Option.{some};
 ghost use Prim.Native.Nat.{_≤_};
 ghost use lib.ListN.{length};
 ghost use Rattle.mac.specs.Result.{verdictCode, compared};
-ghost use Rattle.mac.specs.Inner.Verdict.{CheckOf, badLength};
+ghost use Rattle.mac.specs.Inner.Verdict.{CheckOf, lengthAnswer};
 
 // Whether the digest of the stream is the expected one; a check that is refused says neither of the two.
 pub enum Verdict {
@@ -27,14 +27,17 @@ pub(crate) enum ExpectedLength {
     Length(usize),
 }
 
-// 9: whether an expected digest has not the length of a digest.
-pub(crate) fn bad_digest_length(expected: ExpectedLength) -> bool
-    ensures { λ r. ⌜ r ≡ badLength expected ⌝ }
+// 9, where an expected digest has not the length of a digest; or else number 0.
+pub(crate) fn length_answer(expected: ExpectedLength) -> Answer
+    ensures { λ r. ⌜ r ≡ lengthAnswer expected ⌝ }
 {
-    match expected {
-        ExpectedLength::Absent => false,
-        ExpectedLength::Length(length) => length != 32,
+    let ExpectedLength::Length(length) = expected else {
+        return Answer::accepted(0);
+    };
+    if length != 32 {
+        return Answer::refused(9, 0);
     }
+    Answer::accepted(0)
 }
 
 // What a check says of the digest of its stream.

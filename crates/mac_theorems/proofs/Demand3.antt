@@ -19,8 +19,8 @@ use Rattle.digest.specs.Sha256.{sha256}
 use Rattle.slices.specs.Lists.{OfBytes}
 use Rattle.dataset.proofs.Theorems.{well-formed-accepted, accepted-well-formed}
 use Rattle.dataset.specs.Reading.{answerOf, tree}
-use Rattle.mac.specs.TagList.{tagsIn, listAnswer}
-use Rattle.mac.specs.Content.{SignedElements}
+use Rattle.stream.specs.TagList.{tagsIn, listAnswer}
+use Rattle.stream.specs.Content.{SignedElements}
 use Rattle.mac.specs.Modes.{answerFrom9}
 use Rattle.mac.specs.Result.{neither, compared, isAccepted, verdictOf}
 use Rattle.mac.specs.ListMode.{Call, contentOf, streamIn, stream, answerTo15, answer, streamCall, result}

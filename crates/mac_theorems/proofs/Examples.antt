@@ -9,17 +9,19 @@ use Rattle.dataset.specs.Vr.{formOf, oneOf}
 use Rattle.dataset.specs.Header.{endsAt, closedBy, badLength, tooDeep, undefinedBy, definedBy, valueBy, longAt, byForm, vrOnAt, elementAt, itemBy, itemAt}
 use Rattle.dataset.specs.Reading.{byHeader, byOne, byItem, byFragment, fragmentsBy, elementsBy, elementsAt, dataSet, sizeAnswer, unlessRefused}
 use Rattle.dataset.specs.Lookup.{elementOf}
-use Rattle.mac.specs.TagList.{tagsIn, barred, badSize, ascendingAnswer, unbarredAnswer, listAnswer}
-use Rattle.mac.specs.Content.{fragmentBytes, signed, content}
-use Rattle.mac.specs.Stream.{fragmentsStream, streamOf, listedStream}
-use Rattle.mac.specs.UN.{holdsUN}
-use Rattle.mac.specs.Modes.{elementAnswer, tagsAnswer, answerFrom9}
+use Rattle.stream.specs.TagList.{tagsIn, barred, badSize, ascendingAnswer, unbarredAnswer, listAnswer}
+use Rattle.stream.specs.Content.{fragmentBytes, signed, content}
+use Rattle.stream.specs.Stream.{fragmentsStream, streamOf, listedStream}
+use Rattle.stream.specs.UN.{holdsUN}
+use Rattle.stream.specs.Listed.{elementAnswer, tagsAnswer}
+use Rattle.mac.specs.Modes.{answerFrom9}
 use Rattle.mac.specs.Result.{outputAfter}
+use Rattle.stream.specs.Walk.{answerFrom16, leftIn}
 use Rattle.mac.specs.ListMode.{contentOf, streamIn, answerTo15, answer}
 use Rattle.mac_theorems.specs.Examples.{examples, ExamplesHold, ContentsHold}
 
 pub examples-hold : ExamplesHold
-unfolding examples answer answerTo15 answerFrom9 outputAfter streamIn _orElse_ if_then_else_ listAnswer badSize ascendingAnswer unbarredAnswer barred tagsIn tagsAnswer elementAnswer holdsUN listedStream streamOf fragmentsStream elementOf dataSet sizeAnswer unlessRefused elementsAt elementsBy fragmentsBy byHeader byOne byItem byFragment elementAt vrOnAt byForm longAt badLength tooDeep undefinedBy definedBy valueBy itemAt itemBy endsAt closedBy formOf oneOf num16 num32 tagAt vrAt between
+unfolding examples answer answerTo15 answerFrom9 answerFrom16 outputAfter leftIn streamIn _orElse_ if_then_else_ listAnswer badSize ascendingAnswer unbarredAnswer barred tagsIn tagsAnswer elementAnswer holdsUN listedStream streamOf fragmentsStream elementOf dataSet sizeAnswer unlessRefused elementsAt elementsBy fragmentsBy byHeader byOne byItem byFragment elementAt vrOnAt byForm longAt badLength tooDeep undefinedBy definedBy valueBy itemAt itemBy endsAt closedBy formOf oneOf num16 num32 tagAt vrAt between
 examples-hold = refl
 
 pub contents-hold : ContentsHold

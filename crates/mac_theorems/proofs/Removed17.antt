@@ -14,14 +14,17 @@ use Rattle.answer.proofs.laws.Chain.{or-else-first, or-else-same, or-else-assoc
 use Rattle.dataset.specs.Tree.{Element, Elements, Items, tagOf}
 use Rattle.dataset.specs.Reading.{sizeAnswer, dataSet, answerOf, tree}
 use Rattle.dataset.proofs.laws.Bools.{neither}
-use Rattle.mac.specs.TagList.{barred, unlessBarred, tagsIn, listAnswer}
-use Rattle.mac.specs.Content.{SignedElement, SignedElements, signed, signedElements, signedItems, joined, content}
-use Rattle.mac.specs.UN.{isUN, holdsUN, elementsHoldUN, itemsHoldUN}
-use Rattle.mac.specs.Modes.{tagsAnswer, answerFrom9}
+use Rattle.stream.specs.TagList.{barred, unlessBarred, tagsIn, listAnswer}
+use Rattle.stream.specs.Content.{SignedElement, SignedElements, signed, signedElements, signedItems, joined, content}
+use Rattle.stream.specs.UN.{isUN, holdsUN, elementsHoldUN, itemsHoldUN}
+use Rattle.stream.specs.Listed.{tagsAnswer}
+use Rattle.mac.specs.Modes.{answerFrom9}
 use Rattle.mac.specs.ListMode as listMode
-use Rattle.mac.specs.SignatureMode.{leftOut, own, streamBy, selectionAnswer}
+use Rattle.stream.specs.Own.{leftOut, own}
+use Rattle.stream.specs.Walk.{answerFrom16}
+use Rattle.mac.specs.SignatureMode.{streamBy, selectionAnswer}
 use Rattle.mac.specs.SignatureMode as signatureMode
-use Rattle.mac.proofs.laws.own.OwnElements.{own-element}
+use Rattle.stream.proofs.laws.own.OwnElements.{own-element}
 use Rattle.mac_theorems.specs.Calls.{EitherCall, inListMode, inSignatureMode, resultOf}
 use Rattle.mac_theorems.specs.Removed17.{writesUN, elementsWriteUN, itemsWriteUN, sequencesWriteUN, contentWritesUN, signatureWritesUN, answerFrom13With17, listModeWith17, answerByWith17, signatureModeWith17, answerWith17}
 use Rattle.mac_theorems.proofs.laws.answers.ListedElements.{tags-unrefused}
@@ -97,7 +100,7 @@ signature-unmet list item es d h = both-false (listed-unmet (tagsIn list) 0 es d
 -- ---- the orders without and with 17
 from13-same : (tags : List ℕ) (es : Elements) (metUN : Bool) (stream : List ℕ) (room : ℕ) (expected : Option (List ℕ)) → (tagsAnswer 0 tags es .number ≡ 0 → metUN ≡ false)
     → (tagsAnswer 0 tags es orElse answerFrom9 stream room expected) ≡ answerFrom13With17 tags es metUN stream room expected
-unfolding answerFrom9 answerFrom13With17 _orElse_ if_then_else_
+unfolding answerFrom9 answerFrom16 answerFrom13With17 _orElse_ if_then_else_
 from13-same tags es metUN stream room expected unmet = or-else-same (tagsAnswer 0 tags es) _ _ λ h. rw (unmet h)
 
 by-same : (c : signatureMode.Call)
@@ -130,4 +133,5 @@ answers-same (inListMode c) =
     reading : Answer
     reading = answerOf (dataSet (c .set))
 answers-same (inSignatureMode c) =
-    or-else-assoc (answerOf (dataSet (c .set))) _ _ ∙ ap (λ (a : Answer). answerOf (dataSet (c .set)) orElse a) (by-same c)
+    or-else-assoc (sizeAnswer (c .set)) _ _
+    ∙ ap (λ (a : Answer). sizeAnswer (c .set) orElse a) (or-else-assoc (answerOf (dataSet (c .set))) _ _ ∙ ap (λ (a : Answer). answerOf (dataSet (c .set)) orElse a) (by-same c))

@@ -12,10 +12,10 @@ use lib.ListN.{take}
 use Rattle.dataset.specs.Tree.{Element, Elements}
 use Rattle.dataset.specs.Reading.{WellFormed, tree}
 use Rattle.dataset.specs.Lookup.{elementOf}
-use Rattle.mac.specs.TagList.{tagsIn}
-use Rattle.mac.specs.Content.{SignedElements, someInFragments}
+use Rattle.stream.specs.TagList.{tagsIn}
+use Rattle.stream.specs.Content.{SignedElements, someInFragments}
 use Rattle.answer.specs.declared.Answer.{Answer}
-use Rattle.mac.specs.UN.{holdsUN}
+use Rattle.stream.specs.UN.{holdsUN}
 use Rattle.mac.specs.ListMode.{Call, contentOf}
 use Rattle.mac_theorems.specs.Calls.{inListMode, Run, PromisedRuns}
 

@@ -9,7 +9,7 @@ use mathlib.Core.Option.{Option, some}
 use lib.ListN.{length, drop, replicate}
 use Rattle.answer.specs.declared.Answer.{Answer}
 use Rattle.answer.specs.Answer.{accepted, refused}
-use Rattle.mac.specs.Content.{SignedElement, SignedElements, SignedItems}
+use Rattle.stream.specs.Content.{SignedElement, SignedElements, SignedItems}
 use Rattle.mac.specs.Result.{outputAfter}
 use Rattle.mac.specs.ListMode.{streamCall, contentOf, answer, result}
 

@@ -17,12 +17,14 @@ use Rattle.answer.specs.Answer.{accepted, refused, _orElse_}
 use Rattle.dataset.specs.Vr.{UN}
 use Rattle.dataset.specs.Tree.{Elements}
 use Rattle.dataset.specs.Reading.{sizeAnswer, dataSet, answerOf, tree}
-use Rattle.mac.specs.TagList.{tagsIn, listAnswer}
-use Rattle.mac.specs.Content.{SignedElement, SignedElements, SignedItems, signedElements, content}
-use Rattle.mac.specs.Modes.{tagsAnswer, badDigestLength}
+use Rattle.stream.specs.TagList.{tagsIn, listAnswer}
+use Rattle.stream.specs.Content.{SignedElement, SignedElements, SignedItems, signedElements, content}
+use Rattle.stream.specs.Listed.{tagsAnswer}
+use Rattle.mac.specs.Modes.{badDigestLength}
 use Rattle.mac.specs.ListMode as listMode
 use Rattle.selection.specs.Selection.{Selection, refusal, selected}
-use Rattle.mac.specs.SignatureMode.{own, streamBy}
+use Rattle.stream.specs.Own.{own}
+use Rattle.mac.specs.SignatureMode.{streamBy}
 use Rattle.mac.specs.SignatureMode as signatureMode
 use Rattle.mac_theorems.specs.Calls.{EitherCall, inListMode, inSignatureMode, resultOf}
 
@@ -88,7 +90,9 @@ answerByWith17 (selected list algorithm es item) d room expected =
 -- the whole order of signature mode (9.5), with 17 behind 16
 unfoldable pub signatureModeWith17 : signatureMode.Call → Answer
 signatureModeWith17 c =
-    answerOf (dataSet (c .set)) orElse answerByWith17 (signatureMode.selection c) (c .set) (c .room) (c .expected)
+    sizeAnswer (c .set)
+    orElse answerOf (dataSet (c .set))
+    orElse answerByWith17 (signatureMode.selection c) (c .set) (c .room) (c .expected)
 
 abbrev pub answerWith17 : EitherCall → Answer
 answerWith17 (inListMode c) = listModeWith17 c

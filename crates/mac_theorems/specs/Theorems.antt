@@ -16,12 +16,12 @@ use Rattle.answer.specs.Answer.{accepted, refused, _orElse_}
 use Rattle.dataset.specs.Tree.{Elements}
 use Rattle.digest.specs.Message.{digestOf}
 use Rattle.digest.specs.Sha256.{sha256}
-use Rattle.mac.specs.TagList.{tagsIn, listAnswer}
-use Rattle.mac.specs.Stream.{elementsStream}
+use Rattle.stream.specs.TagList.{tagsIn, listAnswer}
+use Rattle.stream.specs.Stream.{elementsStream}
 use Rattle.mac.specs.Result.{Result, isAccepted, outputAfter, neither, same, differs, verdictOf}
 use Rattle.mac.specs.ListMode as listMode
 use Rattle.selection.specs.Selection.{Algorithm, selected}
-use Rattle.mac.specs.SignatureMode.{own}
+use Rattle.stream.specs.Own.{own}
 use Rattle.mac.specs.SignatureMode as signatureMode
 use Rattle.selection.specs.declared.select.Signature.{Signature}
 use Rattle.mac_theorems.specs.Calls.{EitherCall, inListMode, inSignatureMode, setOf, listOf, roomOf, resultOf}

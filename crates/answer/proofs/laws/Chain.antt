@@ -28,6 +28,15 @@ or-else-same a b c h = go (eqb (a .number) 0) refl
     go true e = h (eqb-true (a .number) 0 e)
     go false e = refl
 
+-- where the first would be the second if it were accepted, it stands
+pub or-else-itself : (a b : Answer) → (a .number ≡ 0 → a ≡ b) → (a orElse b) ≡ a
+unfolding _orElse_ if_then_else_
+or-else-itself a b h = go (eqb (a .number) 0) refl
+  where
+    go : (x : Bool) → eqb (a .number) 0 ≡ x → (if x then b else a) ≡ a
+    go true e = sym (h (eqb-true (a .number) 0 e))
+    go false e = refl
+
 -- where the chain is refused and its second would be accepted the first stands, whatever comes second
 pub or-else-refuses : (a b c : Answer) → b .number ≡ 0 → ((a orElse b) .number ≡ 0 → ⊥) → (a orElse b) ≡ (a orElse c)
 or-else-refuses a b c z h = or-else-same a b c (λ k. absurd (h (ap (λ (x : Answer). x .number) (or-else-second a b k) ∙ z)))

@@ -1,2 +1,3 @@
 pub mod ItemsFrom
 pub mod OneItem
+pub mod Outside

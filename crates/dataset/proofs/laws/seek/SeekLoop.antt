@@ -15,15 +15,14 @@ use Rattle.slices.specs.If.{if_then_else_}
 use Rattle.dataset.specs.Tree.{Element, Elements, tagOf}
 use Rattle.dataset.specs.Reading.{Reading, fault, read, _>>=_, One, ended, element, explicit, byOne, handedOn, oneCase}
 use Rattle.dataset.specs.Lookup.{elementOf}
-use Rattle.dataset.specs.Header.{faultAt, outside}
-use Rattle.dataset.proofs.laws.header.HeaderFacts.{inside-of}
-use Rattle.dataset.proofs.laws.reading.Outcomes.{outside-refused, IsElement, is-one-fault, is-one-end}
+use Rattle.dataset.proofs.laws.extent.Outside.{outside-fault}
+use Rattle.dataset.proofs.laws.reading.Outcomes.{IsElement, is-one-fault, is-one-end}
 use Rattle.dataset.specs.declared.reading.OneOutcome.{OneOutcome}
 use Rattle.dataset.specs.declared.reading.OneOutcome.the-variants as one
 use Rattle.dataset.proofs.laws.reading.Bounded.{explicit-bounded}
 use Rattle.dataset.proofs.laws.reading.Unfolding.{elements-are}
 use Rattle.dataset.proofs.laws.reading.Loops.{answered, one-found, one-past}
-use Rattle.dataset.specs.Extent.{elementsIn}
+use Rattle.dataset.specs.Extent.{elementsIn, outsideAnswer}
 use Rattle.dataset.specs.Place.{Lies, ElementPlaced, Placed, SoughtIn}
 use Rattle.dataset.specs.Inner.Place.{isThere, placeBy, orHere}
 use Rattle.dataset.specs.declared.extent.Extent.{Extent}
@@ -180,12 +179,5 @@ module _ (d : List ℕ) (x : Extent) (at least : ℕ) (r : OneOutcome) (e : oneC
         }
 
 -- ---- an extent that does not lie inside the data is refused, before anything is read
-module _ (d : List ℕ) (x : Extent) (b : Bool) (e : b ≡ outside d (x .stop) (x .from)) where
-  pub seek-outside : (f : Answer) (tag tag′ : ℕ) → b ≡ true → f ≡ faultAt 2 (x .from) → SoughtIn d tag tag′ (elementsIn d x) (sought.Refused f)
-  seek-outside f tag tag′ t q = rw (outside-refused d (x .delimited) (x .left) (x .stop) (x .from) 0 (sym e ∙ t), q) refl
-
-  pub seek-order : b ≡ false → x .from ≤ x .stop
-  seek-order t = inside-of d (x .stop) (x .from) (sym e ∙ t) .1
-
-  pub seek-inside : b ≡ false → x .stop ≤ length d
-  seek-inside t = inside-of d (x .stop) (x .from) (sym e ∙ t) .0
+pub seek-outside : (d : List ℕ) (x : Extent) (f : Answer) (tag tag′ : ℕ) → f ≡ outsideAnswer d x → (f .number ≡ 0 → ⊥) → SoughtIn d tag tag′ (elementsIn d x) (sought.Refused f)
+seek-outside d x f tag tag′ e h = rw (outside-fault d x f e h) refl

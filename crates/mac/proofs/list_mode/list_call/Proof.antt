@@ -1,11 +1,12 @@
 -- `list_call` meets its contract: each place by its law in ListMode. Assumes nothing.
 use Rattle.mac.proofs.laws.list_mode.ListMode as steps
+use Rattle.dataset.proofs.laws.reading.Loops.{size-passed}
 use borrow.Author.Needs.{needs}
 use Rattle.mac.proofs.list_mode.list_call.Statement.{statement}
 use Rattle.mac.proofs.list_mode.list_call.Tie as tie
 
-list-measure-requires : tie.Need-list-measure-requires
-list-measure-requires c κs = search needs
+size-answer-requires : tie.Need-size-answer-requires
+size-answer-requires c κs = search needs
 
 returns : tie.Need-returns
 returns c = search steps.list-refused
@@ -13,22 +14,26 @@ returns c = search steps.list-refused
 whole-requires : tie.Need-whole-requires
 whole-requires c κs = search needs
 
-answer-from-9-requires : tie.Need-answer-from-9-requires
-answer-from-9-requires c κs = search steps.list-measures
+length-answer-requires : tie.Need-length-answer-requires
+length-answer-requires c κs = search needs
+
+write-requires : tie.Need-write-requires
+write-requires c κs = search needs
 
 same-length : tie.Need-same-length
 same-length c = search needs
 
 returns-2 : tie.Need-returns-2
-returns-2 c = search steps.list-call
+returns-2 c = search (steps.list-written, size-passed)
 
 pub list-call-spec : {M : Type 1} → statement M
 list-call-spec =
     tie.close
     (tie.spec
-    list-measure-requires
+    size-answer-requires
     returns
     whole-requires
-    answer-from-9-requires
+    length-answer-requires
+    write-requires
     same-length
     returns-2)

@@ -1,5 +1,5 @@
 -- `list_check` meets its contract. Assumes nothing.
-use Rattle.mac.proofs.laws.verdict.Checks as into
+use Rattle.mac.proofs.laws.verdict.VerdictOfChecks as into
 use Rattle.mac.proofs.laws.list_mode.ListMode as steps
 use borrow.Author.Needs.{needs}
 use Rattle.mac.proofs.list_mode.list_check.Statement.{statement}

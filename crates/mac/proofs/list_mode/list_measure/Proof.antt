@@ -1,5 +1,4 @@
 -- `list_measure` meets its contract: each place by its law in ListMode. Assumes nothing.
-use Rattle.mac.proofs.laws.modes.EitherCall as into
 use Rattle.mac.proofs.laws.list_mode.ListMode as steps
 use Rattle.dataset.proofs.laws.reading.Loops.{size-passed}
 use borrow.Author.Needs.{needs}
@@ -16,7 +15,7 @@ whole-requires : tie.Need-whole-requires
 whole-requires c κs = search needs
 
 measure-requires : tie.Need-measure-requires
-measure-requires c κs = search (into.whole-lies, needs)
+measure-requires c κs = search needs
 
 returns-2 : tie.Need-returns-2
 returns-2 c = search (steps.list-measured, size-passed)

@@ -4,8 +4,8 @@ use borrow.Author.Needs.{needs}
 use Rattle.mac.proofs.signature_mode.signature_call.Statement.{statement}
 use Rattle.mac.proofs.signature_mode.signature_call.Tie as tie
 
-measure-selected-requires : tie.Need-measure-selected-requires
-measure-selected-requires c κs = search needs
+select-in-requires : tie.Need-select-in-requires
+select-in-requires c κs = search needs
 
 enum-known-answer : tie.Need-enum-known-answer
 enum-known-answer c = search needs
@@ -13,38 +13,42 @@ enum-known-answer c = search needs
 enum-known-selected : tie.Need-enum-known-selected
 enum-known-selected c = search needs
 
-sub-answer-from-9 : tie.Need-sub-answer-from-9
-sub-answer-from-9 c = search (steps.measured-order, needs)
+length-answer-requires : tie.Need-length-answer-requires
+length-answer-requires c κs = search needs
 
-part-answer-from-9-start : tie.Need-part-answer-from-9-start
-part-answer-from-9-start c = search (steps.measured-order, needs)
+sub-write : tie.Need-sub-write
+sub-write c = search (steps.selected-order, needs)
 
-part-answer-from-9-end : tie.Need-part-answer-from-9-end
-part-answer-from-9-end c = search (steps.measured-inside, needs)
+part-write-start : tie.Need-part-write-start
+part-write-start c = search (steps.selected-order, needs)
 
-answer-from-9-requires : tie.Need-answer-from-9-requires
-answer-from-9-requires c κs = search steps.measured-measures
+part-write-end : tie.Need-part-write-end
+part-write-end c = search (steps.selected-inside, needs)
+
+write-requires : tie.Need-write-requires
+write-requires c κs = search needs
 
 returns : tie.Need-returns
-returns c = search steps.call-refuses
+returns c = search steps.refused-call
 
 same-length : tie.Need-same-length
 same-length c = search needs
 
 returns-2 : tie.Need-returns-2
-returns-2 c = search steps.call-goes-on
+returns-2 c = search steps.selected-call
 
 pub signature-call-spec : {M : Type 1} → statement M
 signature-call-spec =
     tie.close
     (tie.spec
-    measure-selected-requires
+    select-in-requires
     enum-known-answer
     enum-known-selected
-    sub-answer-from-9
-    part-answer-from-9-start
-    part-answer-from-9-end
-    answer-from-9-requires
+    length-answer-requires
+    sub-write
+    part-write-start
+    part-write-end
+    write-requires
     returns
     same-length
     returns-2)

@@ -1,5 +1,5 @@
 -- `signature_check` meets its contract. Assumes nothing.
-use Rattle.mac.proofs.laws.verdict.Checks as into
+use Rattle.mac.proofs.laws.verdict.VerdictOfChecks as into
 use Rattle.mac.proofs.laws.signature_mode.SignatureMode as steps
 use borrow.Author.Needs.{needs}
 use Rattle.mac.proofs.signature_mode.signature_check.Statement.{statement}

@@ -12,7 +12,7 @@ use lib.ListN.{length, length-append}
 use Rattle.answer.specs.declared.Answer.{Answer}
 use Rattle.slices.specs.If.{if_then_else_}
 use Rattle.answer.specs.Answer.{refused}
-use Rattle.mac.specs.TagList.{tagsIn}
+use Rattle.stream.specs.TagList.{tagsIn}
 use Rattle.mac.specs.ListMode.{Call, answer, stream, result}
 use Rattle.mac.specs.Result.{isAccepted}
 use Rattle.slices.proofs.laws.Parts.{length-between}

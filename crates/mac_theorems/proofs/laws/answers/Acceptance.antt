@@ -18,11 +18,12 @@ use Rattle.dataset.specs.Reading.{Reading, dataSet, answerOf, treeOf, tree}
 use Rattle.dataset.proofs.laws.reading.Loops.{size-within}
 use Rattle.dataset.proofs.Theorems.{faults-inside}
 use Rattle.dataset.proofs.laws.reading.Guarantees.{data-set-read}
-use Rattle.mac.specs.TagList.{tagsIn, listAnswer}
-use Rattle.mac.specs.Modes.{tagsAnswer, answerFrom9}
+use Rattle.stream.specs.TagList.{tagsIn, listAnswer}
+use Rattle.stream.specs.Listed.{tagsAnswer}
+use Rattle.mac.specs.Modes.{answerFrom9}
 use Rattle.mac.specs.Result.{isAccepted}
 use Rattle.mac.specs.ListMode.{Call, stream, answerTo15, answer, result}
-use Rattle.mac.proofs.laws.modes.AnswersFrom9.{from9-accepts, from9-accepted}
+use Rattle.mac.proofs.laws.AnswersFrom9.{from9-accepts, from9-accepted}
 
 -- accepted, over the definitions
 abbrev pub Accepted : Call → Type 0

@@ -15,7 +15,7 @@ use Rattle.answer.proofs.laws.Chain.{or-else-second, or-else-same}
 use Rattle.mac.specs.Modes.{badDigestLength, answerFrom9}
 use Rattle.mac.specs.ListMode as listMode
 use Rattle.mac.specs.SignatureMode as signatureMode
-use Rattle.mac.proofs.laws.modes.AnswersFrom9.{from9-accepted}
+use Rattle.mac.proofs.laws.AnswersFrom9.{from9-accepted}
 use Rattle.selection.specs.declared.select.Signature.{Signature}
 use Rattle.mac_theorems.specs.Theorems.{ChecksAsStream}
 

@@ -23,9 +23,11 @@ use Rattle.dataset.proofs.laws.Bools.{choose}
 use Rattle.dataset.proofs.laws.reading.Bounded.{explicit-bounded}
 use Rattle.dataset.proofs.laws.reading.Within.{Within, elements-within}
 use Rattle.dataset.proofs.laws.reading.Loops.{data-set-is, data-set-over}
-use Rattle.mac.specs.TagList.{tagsIn, barred, ascendingAnswer, unbarredAnswer, badSize, listAnswer}
-use Rattle.mac.specs.UN.{isUN, holdsUN}
-use Rattle.mac.specs.Modes.{elementAnswer, tagsAnswer, badDigestLength, answerFrom9}
+use Rattle.stream.specs.TagList.{tagsIn, barred, ascendingAnswer, unbarredAnswer, badSize, listAnswer}
+use Rattle.stream.specs.UN.{isUN, holdsUN}
+use Rattle.stream.specs.Listed.{elementAnswer, tagsAnswer}
+use Rattle.stream.specs.Walk.{answerFrom16}
+use Rattle.mac.specs.Modes.{badDigestLength, answerFrom9}
 use Rattle.mac.specs.ListMode.{Call, answerTo15, answer}
 use Rattle.mac_theorems.specs.Calls.{EitherCall, inListMode, inSignatureMode, setOf, listOf, roomOf, resultOf}
 use Rattle.mac_theorems.specs.Theorems.{highest, Positioned}
@@ -114,7 +116,7 @@ module _ (c : EitherCall) where
   size-regular t number h n =
       test-regular t _ _ (λ z. plain-regular number (λ l u. omega arith) (other-possible number (omega arith) n)) (accepted-regular 0)
 
-  set-regular : Regular c (sizeAnswer (setOf c))
+  pub set-regular : Regular c (sizeAnswer (setOf c))
   unfolding sizeAnswer
   set-regular = size-regular (ltb sizeLimit (length (setOf c))) 1 (omega arith) (λ z. omega arith)
 
@@ -154,7 +156,7 @@ module _ (c : EitherCall) where
 
   -- the end of the order, where the list is not refused
   pub from9-regular : listAnswer (listOf c) .number ≡ 0 → Regular c (answerFrom9 (resultOf c .stream) (roomOf c) (resultOf c .expected))
-  unfolding answerFrom9
+  unfolding answerFrom9 answerFrom16
   from9-regular h =
       or-else-regular _ _ (test-regular (badDigestLength (resultOf c .expected)) _ _ of9 (accepted-regular 0)) λ z.
       or-else-regular _ _ (test-regular (ltb (roomOf c) (length (resultOf c .stream))) _ _ of16 (accepted-regular 0)) λ z.

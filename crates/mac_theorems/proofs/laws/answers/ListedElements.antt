@@ -11,9 +11,9 @@ use Rattle.answer.specs.Answer.{accepted, refused}
 use Rattle.answer.proofs.laws.Chain.{both-accepted}
 use Rattle.dataset.specs.Tree.{Element, Elements}
 use Rattle.dataset.specs.Lookup.{elementOf}
-use Rattle.mac.specs.Content.{SignedElements, signed, joined, content}
-use Rattle.mac.specs.UN.{isUN, holdsUN}
-use Rattle.mac.specs.Modes.{elementAnswer, tagsAnswer}
+use Rattle.stream.specs.Content.{SignedElements, signed, joined, content}
+use Rattle.stream.specs.UN.{isUN, holdsUN}
+use Rattle.stream.specs.Listed.{elementAnswer, tagsAnswer}
 
 -- ---- none of 13, 14 and 15
 pub record Unrefused (o : Option Element) : Type 0 where

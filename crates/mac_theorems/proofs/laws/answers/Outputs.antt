@@ -7,15 +7,16 @@ use native.Mathlib.Omega.{arith}
 use lib.ListN.{length, take, drop, length-append, length-drop}
 use lib.Seq.{take-at, drop-at}
 use Rattle.slices.specs.If.{if_then_else_}
+use Rattle.stream.specs.Walk.{leftIn}
 use Rattle.mac.specs.Result.{Result, isAccepted, outputAfter}
 
 pub output-refused : (c : Result) (out : List ℕ) → isAccepted c ≡ false → outputAfter c out ≡ out
-unfolding outputAfter if_then_else_
+unfolding outputAfter leftIn if_then_else_
 output-refused c out h = rw h
 
 module _ (c : Result) (out : List ℕ) (h : isAccepted c ≡ true) where
   output-is : outputAfter c out ≡ c .stream ++ drop (length (c .stream)) out
-  unfolding outputAfter if_then_else_
+  unfolding outputAfter leftIn if_then_else_
   output-is = rw h
 
   pub output-room : length (c .stream) ≤ length out → length (outputAfter c out) ≡ length out

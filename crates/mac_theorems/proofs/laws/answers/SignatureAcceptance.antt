@@ -6,12 +6,12 @@ use native.Mathlib.Omega.{arith}
 use lib.ListN.{length}
 use Rattle.answer.specs.Answer.{accepted}
 use Rattle.answer.proofs.laws.Chain.{both-accepted}
-use Rattle.dataset.specs.Reading.{dataSet, answerOf, tree}
-use Rattle.mac.specs.TagList.{listAnswer}
+use Rattle.dataset.specs.Reading.{sizeAnswer, dataSet, answerOf, tree}
+use Rattle.stream.specs.TagList.{listAnswer}
 use Rattle.mac.specs.Result.{isAccepted}
 use Rattle.mac.specs.SignatureMode.{selectionAnswer, Call, selection, stream, answerTo15, answer, result}
 use Rattle.mac_theorems.proofs.laws.answers.Acceptance.{end-accepted, end-fits}
-use Rattle.mac_theorems.proofs.laws.answers.EveryAnswer.{Regular, plain-regular, or-else-regular, list-regular, reading-regular, tags-regular, from9-regular}
+use Rattle.mac_theorems.proofs.laws.answers.EveryAnswer.{Regular, plain-regular, or-else-regular, set-regular, list-regular, reading-regular, tags-regular, from9-regular}
 use Rattle.mac_theorems.proofs.laws.signature.SelectedItem.{select-holds}
 use Rattle.mac_theorems.specs.Calls.{EitherCall, inSignatureMode, selectedList}
 
@@ -43,8 +43,8 @@ module _ (c : Call) where
   unfolding answer answerTo15
   answer-regular =
       or-else-regular k (answerTo15 (c .uid) (c .which) (c .set)) _
-      (or-else-regular k _ _ (reading-regular k) λ z. selection-regular)
-      λ z. from9-regular k (selection-lists (both-accepted (answerOf (dataSet (c .set))) _ z .second))
+      (or-else-regular k _ _ (set-regular k) λ z. or-else-regular k _ _ (reading-regular k) λ y. selection-regular)
+      λ z. from9-regular k (selection-lists (both-accepted (answerOf (dataSet (c .set))) _ (both-accepted (sizeAnswer (c .set)) _ z .second) .second))
 
 -- ---- an accepted call
 module _ (c : Call) (h : isAccepted (result c) ≡ true) where

@@ -13,9 +13,9 @@ use Rattle.dataset.specs.Reading.{deeper}
 use Rattle.dataset.specs.Tree.{Span, Element, Elements, Items, tagOf}
 use Rattle.dataset.specs.Order.{Sized}
 use Rattle.dataset.proofs.laws.reading.Lies.{ElementLies, ElementsLie, ItemsLie}
-use Rattle.mac.specs.TagList.{barred, unlessBarred}
-use Rattle.mac.specs.Content.{SignedElement, SignedElements, SignedItems, fragmentBytes, signed, signedElements, signedItems}
-use Rattle.mac.specs.Stream.{itemTagBytes, sequenceDelimiterBytes, fragmentsStream, streamOf, elementsStream, itemsStream}
+use Rattle.stream.specs.TagList.{barred, unlessBarred}
+use Rattle.stream.specs.Content.{SignedElement, SignedElements, SignedItems, fragmentBytes, signed, signedElements, signedItems}
+use Rattle.stream.specs.Stream.{itemTagBytes, sequenceDelimiterBytes, fragmentsStream, streamOf, elementsStream, itemsStream}
 use Rattle.slices.proofs.laws.Parts.{length-between}
 use Rattle.mac_theorems.proofs.laws.demand3.ByteSlices.{bytes16, bytes32, tagBytes, vrBytes, between-none, header-front, long-front}
 

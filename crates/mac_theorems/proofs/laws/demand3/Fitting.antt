@@ -11,8 +11,8 @@ use Rattle.dataset.specs.Tree.{Element, Elements, Items, tagOf}
 use Rattle.dataset.specs.Order.{Tagged}
 use Rattle.dataset.proofs.laws.reading.Lies.{ElementLies, ElementsLie, ItemsLie}
 use Rattle.dataset.specs.Reading.{sizeLimit, deeper}
-use Rattle.mac.specs.TagList.{barred, unlessBarred}
-use Rattle.mac.specs.Content.{SignedElement, SignedElements, signed, signedElements, signedItems}
+use Rattle.stream.specs.TagList.{barred, unlessBarred}
+use Rattle.stream.specs.Content.{SignedElement, SignedElements, signed, signedElements, signedItems}
 use Rattle.slices.proofs.laws.Parts.{length-between}
 use Rattle.mac_theorems.proofs.laws.demand3.ByteSlices.{small16}
 use Rattle.mac_theorems.proofs.laws.demand3.Encoding.{isShort, SizedAs, sized-as}

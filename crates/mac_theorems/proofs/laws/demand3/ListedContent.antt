@@ -11,10 +11,10 @@ use Rattle.dataset.specs.Vr.{SQ, OB, UN}
 use Rattle.dataset.specs.Tree.{Element, Elements, vrOf}
 use Rattle.dataset.proofs.laws.reading.Lies.{ElementsLie}
 use Rattle.dataset.specs.Lookup.{elementOf}
-use Rattle.mac.specs.Content.{SignedElement, SignedElements, signed, joined, content}
-use Rattle.mac.specs.Stream.{foundStream, listedStream}
-use Rattle.mac.specs.UN.{isUN, holdsUN}
-use Rattle.mac.specs.Modes.{elementAnswer, tagsAnswer}
+use Rattle.stream.specs.Content.{SignedElement, SignedElements, signed, joined, content}
+use Rattle.stream.specs.Stream.{foundStream, listedStream}
+use Rattle.stream.specs.UN.{isUN, holdsUN}
+use Rattle.stream.specs.Listed.{elementAnswer, tagsAnswer}
 use Rattle.mac_theorems.specs.Demand3.{foundHoldsUN, listedHoldUN}
 use Rattle.dataset.proofs.laws.Bools.{neither}
 use Rattle.mac_theorems.proofs.laws.demand3.Encoding.{encodeElements, element-encoded}

@@ -12,7 +12,7 @@ use Rattle.dataset.specs.Tree.{Element, Elements, tagOf}
 use Rattle.dataset.proofs.laws.reading.Lies.{ElementLies, ElementsLie}
 use Rattle.dataset.specs.Lookup.{elementOf}
 use Rattle.dataset.proofs.laws.reading.Order.{element-ends}
-use Rattle.mac.proofs.laws.listed.Finding.{find-past}
+use Rattle.stream.proofs.laws.listed.Finding.{find-past}
 
 -- the element e of the tag, from `from` to `mid`, and the elements after it
 pub record FoundAt (tag : ℕ) (es : Elements) (d : List ℕ) (left floor at next : ℕ) (e : Element) : Type 0 where

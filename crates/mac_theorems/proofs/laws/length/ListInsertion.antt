@@ -12,8 +12,8 @@ use Rattle.slices.specs.If.{if_then_else_}
 use Rattle.answer.specs.Answer.{refused}
 use Rattle.dataset.specs.Tree.{Elements}
 use Rattle.dataset.specs.Lookup.{elementOf}
-use Rattle.mac.specs.TagList.{barred, ascendingAnswer, unbarredAnswer}
-use Rattle.mac.specs.Stream.{foundStream, listedStream}
+use Rattle.stream.specs.TagList.{barred, ascendingAnswer, unbarredAnswer}
+use Rattle.stream.specs.Stream.{foundStream, listedStream}
 use Rattle.mac_theorems.proofs.laws.length.ListStreamLength.{Ascends, ascends}
 
 pub insert : (tag : ℕ) → List ℕ → List ℕ

@@ -18,10 +18,10 @@ use Rattle.dataset.specs.Reading.{Reading, levels, dataSet, treeOf}
 use Rattle.dataset.specs.Lookup.{elementOf}
 use Rattle.dataset.proofs.laws.reading.Guarantees.{data-set-read}
 use Rattle.dataset.proofs.laws.reading.Order.{elements-end}
-use Rattle.mac.specs.TagList.{tagsIn, ascendingAnswer, unbarredAnswer, listAnswer}
-use Rattle.mac.specs.Stream.{streamOf, foundStream, listedStream}
+use Rattle.stream.specs.TagList.{tagsIn, ascendingAnswer, unbarredAnswer, listAnswer}
+use Rattle.stream.specs.Stream.{streamOf, foundStream, listedStream}
 use Rattle.mac.specs.ListMode.{Call, streamIn, stream}
-use Rattle.mac.proofs.laws.writer.StreamLength.{element-length}
+use Rattle.stream.proofs.laws.writer.StreamLength.{element-length}
 use Rattle.mac_theorems.proofs.laws.length.FoundLies.{found-at}
 
 pub record Ascends (index least tag : ℕ) (tags : List ℕ) : Type 0 where

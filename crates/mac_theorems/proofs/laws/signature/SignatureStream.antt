@@ -15,13 +15,17 @@ use Rattle.slices.specs.If.{if_then_else_}
 use Rattle.answer.specs.Answer.{accepted, refused, _orElse_}
 use Rattle.answer.proofs.laws.Chain.{or-else-first, or-else-second, or-else-assoc}
 use Rattle.dataset.specs.Tree.{Elements}
-use Rattle.dataset.specs.Reading.{Reading, fault, read, dataSet, answerOf, tree}
+use Rattle.dataset.specs.Reading.{Reading, fault, read, sizeAnswer, dataSet, answerOf, tree}
+use Rattle.dataset.proofs.laws.reading.Loops.{size-within}
+use Rattle.dataset.proofs.laws.reading.Guarantees.{data-set-read}
 use Rattle.dataset.specs.Lookup.{elementOf}
-use Rattle.mac.specs.Stream.{elementsStream}
+use Rattle.stream.specs.Stream.{elementsStream}
 use Rattle.mac.specs.Modes.{badDigestLength, answerFrom9}
 use Rattle.mac.specs.ListMode as listMode
 use Rattle.selection.specs.Selection.{Algorithm, signatureItem, selectIn, select, selected}
-use Rattle.mac.specs.SignatureMode.{own, streamBy, selectionAnswer, Call, selection, streamIn, stream, answerTo15, answer}
+use Rattle.stream.specs.Own.{own}
+use Rattle.stream.specs.Walk.{signedStream, answerFrom16}
+use Rattle.mac.specs.SignatureMode.{streamBy, selectionAnswer, Call, selection, streamIn, stream, answerTo15, answer}
 use Rattle.selection.specs.declared.select.Signature.{Signature}
 use Rattle.selection.specs.declared.select.Signature.the-variants as signature
 use Rattle.mac_theorems.specs.Theorems.{asList, SignatureStream}
@@ -51,7 +55,7 @@ module _ (first all : List ℕ) (room : ℕ) (expected : Option (List ℕ)) (l :
       ∙ room-again (ltb room (length first)) (ltb room (length all)) refl refl
 
   from9-more : answerFrom9 all room expected ≡ (answerFrom9 first room expected orElse whole)
-  unfolding answerFrom9
+  unfolding answerFrom9 answerFrom16
   from9-more = ap (λ (x : Answer). digest orElse x) (sym after) ∙ sym (or-else-assoc digest _ whole)
     where
       digest : Answer
@@ -77,7 +81,7 @@ module _ (c : Call) (list : List ℕ) (algorithm : Algorithm) (item : Elements) 
   d = c .set
 
   streams : stream c ≡ listMode.stream (asList c list) ++ elementsStream (own item) d
-  unfolding streamIn streamBy listMode.streamIn
+  unfolding streamIn streamBy signedStream listMode.streamIn
   streams = rw e
 
   -- its data set is read: nothing is selected in a refused one
@@ -96,7 +100,10 @@ module _ (c : Call) (list : List ℕ) (algorithm : Algorithm) (item : Elements) 
     -- the order up to 15 is list mode's
     same-to15 : answerTo15 (c .uid) (c .which) d ≡ listMode.answerTo15 list d
     unfolding answerTo15 selectionAnswer
-    same-to15 = or-else-second (answerOf (dataSet d)) _ read-number ∙ rw e (sym (to15-read list d r))
+    same-to15 =
+        let small = data-set-read d (tree d) (r .next) (r .is) .small in
+        or-else-second (sizeAnswer d) _ (ap (λ (a : Answer). a .number) (size-within d small))
+        ∙ or-else-second (answerOf (dataSet d)) _ read-number ∙ rw e (sym (to15-read list d r))
 
     answers : answer c ≡ (listMode.answer (asList c list) orElse (if ltb (c .room) (length (stream c)) then refused 16 0 else accepted (length (stream c))))
     unfolding answer listMode.answer

@@ -1,0 +1,91 @@
+-- What a call in either mode answers and leaves, by what the walk over what is signed answers. Assumes nothing.
+use Prim.Native.Nat.{ℕ, _+_, _≤_}
+use mathlib.Core.Path.{_≡_, refl, sym, ap, _∙_}
+use mathlib.Core.List.{List, [], _∷_}
+use mathlib.Core.Option.{Option, some}
+use mathlib.Core.Option as Opt
+use native.Mathlib.Omega.{arith}
+use lib.ListN.{length}
+use borrow.Author.Tests.{ne-eqb}
+use Rattle.slices.specs.If.{if_then_else_}
+use Rattle.answer.specs.declared.Answer.{Answer}
+use Rattle.answer.specs.Answer.{accepted, refused, _orElse_}
+use Rattle.answer.proofs.laws.Chain.{or-else-first, or-else-second, or-else-itself, both-accepted}
+use Rattle.dataset.specs.Tree.{Elements}
+use Rattle.dataset.specs.Lookup.{elementOf}
+use Rattle.dataset.specs.declared.extent.Extent.{Extent}
+use Rattle.stream.specs.Listed.{elementAnswer, tagsAnswer}
+use Rattle.stream.specs.Walk.{answerFrom16, leftIn, WrittenAs}
+use Rattle.stream.specs.Walk as walk
+use Rattle.stream.specs.declared.walk.SignatureItem.{SignatureItem}
+use Rattle.stream.proofs.laws.walk.Writing.{written-fits}
+use Rattle.mac.specs.Modes.{badDigestLength, answerFrom9}
+use Rattle.mac.specs.Result.{Result, outputAfter}
+use Rattle.mac.specs.Inner.Verdict.{lengthOf, lengthAnswer}
+use Rattle.mac.specs.Inner.Calls.{CallAnswered}
+use Rattle.mac.specs.declared.verdict.ExpectedLength.{ExpectedLength}
+
+-- ---- 13 to 15, and nothing behind them
+tags-accepted : (index : ℕ) (tags : List ℕ) (es : Elements) → tagsAnswer index tags es .number ≡ 0 → tagsAnswer index tags es ≡ accepted 0
+unfolding tagsAnswer
+tags-accepted index [] es h = refl
+tags-accepted index (tag ∷ tags) es h =
+    let k = both-accepted (elementAnswer index (elementOf tag es)) (tagsAnswer (index + 1) tags es) h in
+    or-else-second (elementAnswer index (elementOf tag es)) _ (k .first) ∙ tags-accepted (index + 1) tags es (k .second)
+
+pub tags-end : (index : ℕ) (tags : List ℕ) (es : Elements) → (tagsAnswer index tags es orElse accepted 0) ≡ tagsAnswer index tags es
+tags-end index tags es = or-else-itself (tagsAnswer index tags es) (accepted 0) (tags-accepted index tags es)
+
+-- ---- 9
+nine : (expected : Option (List ℕ)) → (if badDigestLength expected then refused 9 0 else accepted 0) ≡ lengthAnswer (lengthOf expected)
+unfolding if_then_else_
+nine Opt.none = refl
+nine (some e) = refl
+
+-- ---- a call with this stream whose order up to 15 comes to `first`
+abbrev pub callOf : (first : Answer) (stream : List ℕ) (room : ℕ) → Option (List ℕ) → Result
+callOf first stream room expected = record { answer = first orElse answerFrom9 stream room expected; stream = stream; expected = expected }
+
+module _ (first : Answer) (stream : List ℕ) where
+  -- a refusal up to 15
+  pub measured-refused : (a : Answer) → a ≡ first → (a .number ≡ 0 → ⊥) → a ≡ (first orElse accepted (length stream))
+  measured-refused a e h = e ∙ sym (or-else-first first _ (λ z. h (ap (λ (x : Answer). x .number) e ∙ z)))
+
+  pub call-refused : (given : ExpectedLength) (most : ℕ) (out : List ℕ) (a : Answer) → a ≡ first → (a .number ≡ 0 → ⊥)
+      → CallAnswered (callOf first stream (length out)) given most out a out
+  unfolding outputAfter leftIn if_then_else_
+  call-refused given most out a e h =
+      let q : (expected : Option (List ℕ)) → a ≡ (first orElse answerFrom9 stream (length out) expected) =
+      λ expected. e ∙ sym (or-else-first first _ (λ z. h (ap (λ (x : Answer). x .number) e ∙ z))) in
+      record {
+        streamed = λ expected g. record { answers = q expected; output = rw (← q expected, ne-eqb (a .number) 0 h) };
+        long = λ expected z. absurd (h z);
+        room = λ z. absurd (h z);
+        short = λ z. absurd (h z);
+      }
+
+  -- what is signed lies where l, x and item say
+  module _ (l d : List ℕ) (x : Extent) (item : SignatureItem) (e : first ≡ walk.answerTo15 l d x item) (s : stream ≡ walk.streamIn l d x item) where
+    pub measured-is : (r : Answer) → r ≡ walk.measure l d x item → r ≡ (first orElse accepted (length stream))
+    unfolding walk.measure
+    measured-is r q = q ∙ rw (e, s) refl
+
+    pub call-written : (given : ExpectedLength) (most : ℕ) (out : List ℕ) → length d + length d ≤ most → (later : Answer) → later ≡ lengthAnswer given
+        → (r : Answer) (ys : List ℕ) → WrittenAs l d x item later out r ys → CallAnswered (callOf first stream (length out)) given most out r ys
+    unfolding outputAfter walk.answer answerFrom9
+    call-written given most out k later q r ys t =
+        let from16 = answerFrom16 stream (length out) in
+        let same : (expected : Option (List ℕ)) → lengthOf expected ≡ given → r ≡ (first orElse answerFrom9 stream (length out) expected) =
+        λ expected g.
+        t .answers ∙ ap (λ (a : Answer). a orElse later orElse answerFrom16 (walk.streamIn l d x item) (length out)) (sym e)
+        ∙ ap (λ (b : List ℕ). first orElse later orElse answerFrom16 b (length out)) (sym s)
+        ∙ ap (λ (a : Answer). first orElse a orElse from16) (q ∙ ap lengthAnswer (sym g) ∙ sym (nine expected)) in
+        record {
+          streamed = λ expected g. record {
+            answers = same expected g;
+            output = t .output ∙ ap (λ (b : List ℕ). leftIn r b out) (sym s) ∙ ap (λ (a : Answer). leftIn a stream out) (same expected g);
+          };
+          long = λ expected z. written-fits l d x item later out r ys t z .long ∙ ap length (sym s);
+          room = λ z. written-fits l d x item later out r ys t z .room;
+          short = λ z. omega (arith, t .short z);
+        }

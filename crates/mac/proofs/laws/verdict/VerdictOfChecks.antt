@@ -1,0 +1,108 @@
+-- The verdict of a check, place by place, with the facts of the place as premises. Assumes nothing.
+use Prim.Native.Nat.{ℕ, _+_, _≤_}
+use mir.Syntax.{w8}
+use mir.Val.{Fits}
+use mathlib.Core.Path.{_≡_, refl, sym, ap, _∙_}
+use mathlib.Core.Bool.{Bool, true, false}
+use mathlib.Core.List.{List, _++_}
+use mathlib.Core.Option.{Option, some}
+use mathlib.Core.Option as Opt
+use native.Mathlib.Omega.{arith}
+use lib.Dec.{eqb}
+use lib.ListN.{length, take, drop, getD}
+use lib.Seq.{take-at, length-take-le}
+use borrow.Author.Tests.{eq-eqb, ne-eqb, eqb-true, eqb-false, le-leb}
+use Rattle.answer.specs.declared.Answer.{Answer}
+use Rattle.answer.specs.Answer.{accepted, refused}
+use Rattle.slices.specs.If.{if_then_else_}
+use Rattle.digest.specs.Message.{limit, digestOf, hashing}
+use Rattle.digest.specs.Sha256.{sha256}
+use Rattle.stream.specs.Walk.{leftIn}
+use Rattle.digest.specs.declared.message.Hashed.{Hashed}
+use Rattle.mac.specs.Result.{Result, outputAfter, same, differs, verdictCode, compared, verdictOf, Streamed, CheckedAs}
+use Rattle.slices.specs.Lists.{sameBytes}
+use Rattle.mac.specs.Inner.Verdict.{CheckOf, lengthOf, lengthAnswer}
+use Rattle.mac.specs.Inner.Calls.{CallAnswered}
+use Rattle.mac.specs.declared.verdict.Verdict.{Verdict}
+use Rattle.mac.specs.declared.verdict.Verdict.the-variants as verdict
+use Rattle.mac.specs.declared.verdict.Checked.{Checked}
+use Rattle.mac.specs.declared.verdict.ExpectedLength.{ExpectedLength}
+use Rattle.mac.specs.declared.verdict.ExpectedLength.the-variants as expectedLength
+
+-- ---- 9
+module _ (e : ExpectedLength) (a : Answer) where
+  pub length-none : e ≡ expectedLength.Absent → a ≡ accepted 0 → a ≡ lengthAnswer e
+  length-none q k = k ∙ rw q
+
+  module _ (n : ℕ) (q : e ≡ expectedLength.Length n) where
+    pub length-wrong : (n ≡ 32 → ⊥) → a ≡ refused 9 0 → a ≡ lengthAnswer e
+    unfolding if_then_else_
+    length-wrong h k = k ∙ rw (q, ne-eqb n 32 h)
+
+    pub length-right : n ≡ 32 → a ≡ accepted 0 → a ≡ lengthAnswer e
+    unfolding if_then_else_
+    length-right h k = k ∙ rw (q, eq-eqb n 32 h)
+
+-- ---- the verdict
+module _ (digest expected : List ℕ) (b : Bool) (e : b ≡ sameBytes digest expected) where
+  pub says-same : b ≡ true → same ≡ compared (some expected) digest
+  unfolding if_then_else_
+  says-same t = rw (← e, t)
+
+  pub says-differs : b ≡ false → differs ≡ compared (some expected) digest
+  unfolding if_then_else_
+  says-differs t = rw (← e, t)
+
+-- ---- a check, by the answer of its stream
+hashes : (m : List ℕ) → length m ≤ limit → hashing sha256 m .digest ≡ digestOf sha256 m
+unfolding hashing if_then_else_
+hashes m h = rw (le-leb (length m) limit h)
+
+module _ (a : Answer) (expected work : List ℕ) where
+  pub check-refused : (a .number ≡ 0 → ⊥) → CheckOf a expected work (record { answer = a; verdict = verdict.Neither })
+  check-refused h = record { answers = refl; refused = λ k. refl; says = λ z. absurd (h z) }
+
+  pub check-said : (g : Hashed) (v : Verdict) → a .number ≡ 0 → g ≡ hashing sha256 (take (a .length) work) → verdictCode v ≡ compared (some expected) (g .digest)
+      → CheckOf a expected work (record { answer = a; verdict = v })
+  check-said g v h q w = record { answers = refl; refused = λ k. absurd (k h); says = λ z. w ∙ ap (λ (x : Hashed). compared (some expected) (x .digest)) q }
+
+pub check-count : (a : Answer) (work : List ℕ) → (a .number ≡ 0 → a .length ≤ length work) → a .number ≡ 0 → a .length ≡ length (take (a .length) work)
+check-count a work h z = sym (length-take-le (a .length) work (h z))
+
+-- ---- a call in either mode
+
+-- the elements of a slice of bytes fit a byte
+abbrev pub AllFit : List ℕ → Type 0
+AllFit d = (i : ℕ) → Fits w8 (getD d i 0)
+
+pub call-streamed : (call : Option (List ℕ) → Result) (d out after : List ℕ) (a : Answer) → CallAnswered call (lengthOf Opt.none) limit out a after → AllFit d
+    → Streamed (call Opt.none) d out a after
+call-streamed call d out after a s b = let t = s .streamed Opt.none refl in record { answers = t .answers; output = t .output; bytes = λ i. b i .fits }
+
+pub call-room : (call : Option (List ℕ) → Result) (given : ExpectedLength) (work after : List ℕ) (a : Answer) → CallAnswered call given limit work a after
+    → length after ≡ length work → a .number ≡ 0 → a .length ≤ length after
+call-room call given work after a s k h = omega (arith, s .room h)
+
+module _ (call : Option (List ℕ) → Result) (d expected work after : List ℕ) (a : Answer) (s : CallAnswered call (lengthOf (some expected)) limit work a after) where
+  -- what is digested is the stream
+  digested : a .number ≡ 0 → take (a .length) after ≡ call (some expected) .stream
+  unfolding outputAfter leftIn if_then_else_
+  digested h =
+      let t = s .streamed (some expected) refl in
+      let b = call (some expected) .stream in
+      let y : after ≡ b ++ drop (length b) work = t .output ∙ rw (← t .answers, eq-eqb (a .number) 0 h) in
+      rw y (take-at b (drop (length b) work) (a .length) (sym (s .long (some expected) h)))
+
+  pub call-checked : (r : Checked) → call (some expected) .expected ≡ some expected → CheckOf a expected after r → AllFit d → CheckedAs (call (some expected)) d work r after
+  unfolding verdictOf if_then_else_
+  call-checked r e k b =
+      let t = s .streamed (some expected) refl in
+      record { answers = k .answers ∙ t .answers; says = go (eqb (a .number) 0) refl; output = t .output; bytes = λ i. b i .fits }
+    where
+      go : (b : Bool) → eqb (a .number) 0 ≡ b → verdictCode (r .verdict) ≡ verdictOf (call (some expected))
+      go true q =
+          let z = eqb-true (a .number) 0 q in
+          let b = call (some expected) .stream in
+          let m : length b ≤ limit = omega (arith, s .long (some expected) z, s .short z) in
+          k .says z ∙ rw (digested z, hashes b m, e, ← s .streamed (some expected) refl .answers, q)
+      go false q = k .refused (eqb-false (a .number) 0 q) ∙ rw (← s .streamed (some expected) refl .answers, q)

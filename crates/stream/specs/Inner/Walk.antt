@@ -1,0 +1,36 @@
+-- For inner contracts; no part of what a reader has to believe: the walk over the listed elements and the signature item.
+-- Assumes nothing.
+use Prim.Native.Nat.{ℕ, _+_, _≤_}
+use mathlib.Core.Path.{_≡_}
+use mathlib.Core.List.{List}
+use lib.ListN.{length}
+use lib.Seq.{sets}
+use Rattle.answer.specs.declared.Answer.{Answer}
+use Rattle.answer.specs.Answer.{accepted, _orElse_}
+use Rattle.dataset.specs.Tree.{Elements}
+use Rattle.dataset.specs.Reading.{Reading, answerOf, treeOf}
+use Rattle.dataset.specs.Extent.{elementsIn}
+use Rattle.dataset.specs.declared.extent.Extent.{Extent}
+use Rattle.stream.specs.TagList.{tagsIn}
+use Rattle.stream.specs.Listed.{tagsAnswer}
+use Rattle.stream.specs.Walk.{itemReading, signedStream, streamIn}
+use Rattle.stream.specs.Inner.Own.{ownStream}
+use Rattle.stream.specs.declared.walk.SignatureItem.{SignatureItem}
+
+-- by the readings of the data set and of the signature item: the fault of the first, 13 to 15, the fault of the second; or else the length of
+-- the stream
+unfoldable pub walkAnswer : (tags d : List ℕ) → (p item : Reading Elements) → Answer
+walkAnswer tags d p item =
+    (answerOf p orElse tagsAnswer 0 tags (treeOf p) orElse answerOf item) orElse accepted (length (signedStream tags (treeOf p) (treeOf item) d))
+
+-- what follows the listed elements, from `to` on: the signature item's own
+pub record FollowingWalk (d : List ℕ) (item : SignatureItem) (to : ℕ) (r : Answer) (before after : List ℕ) : Type 0 where
+  pub answers : r ≡ (answerOf (itemReading d item) orElse accepted (to + length (ownStream (treeOf (itemReading d item)) d)))
+  pub output : r .number ≡ 0 → after ≡ sets before to (ownStream (treeOf (itemReading d item)) d)
+  pub short : r .number ≡ 0 → r .length ≤ to + length d
+
+-- all of it
+pub record StreamWalk (list d : List ℕ) (x : Extent) (item : SignatureItem) (r : Answer) (before after : List ℕ) : Type 0 where
+  pub answers : r ≡ walkAnswer (tagsIn list) d (elementsIn d x) (itemReading d item)
+  pub output : r .number ≡ 0 → after ≡ sets before 0 (streamIn list d x item)
+  pub short : r .number ≡ 0 → r .length ≤ length d + length d
