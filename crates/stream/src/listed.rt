@@ -11,7 +11,7 @@ ghost use lib.ListN.{length, drop};
 ghost use Rattle.answer.specs.Answer as Spec;
 ghost use Rattle.stream.specs.TagList.{tagsIn, ascendingAnswer};
 ghost use Rattle.dataset.specs.Place.{Lies};
-ghost use Rattle.stream.specs.Inner.Listed.{ListWalk, nextListed, stoppedOf, mergedOf, endedOf};
+ghost use Rattle.stream.specs.Inner.Listed.{ListWalk, nextListed, wantedBehind, stoppedOf, mergedOf, endedOf};
 
 // How far list and data set are merged: the index of the tag that is wanted next; and the first of 13, 14, 15, or the length of the
 // stream so far.
@@ -28,6 +28,20 @@ fn next_listed(list: &[u8], index: usize) -> Keep
         return Keep::Nothing;
     }
     Keep::Only(tag_list::tag_at(list, index))
+}
+
+// The element that is wanted next, behind one of this tag: still the same where that stood before it. The list is read only where it is
+// another.
+fn wanted_behind(list: &[u8], keep: Keep, tag: u32, index: usize) -> Keep
+    ensures { λ r. ⌜ r ≡ wantedBehind keep tag (tagsIn (drop (4 * index) (now (list .entry)))) ⌝ }
+{
+    let Keep::Only(wanted) = keep else {
+        return next_listed(list, index);
+    };
+    if tag < wanted {
+        return keep;
+    }
+    next_listed(list, index)
 }
 
 // A refusal: no tag is wanted any more.
@@ -100,8 +114,8 @@ pub(crate) fn walk_list(list: &[u8], d: &[u8], x: Extent, out: &mut [u8]) -> Ans
     let mut least: u64 = 0;
     let answer = Answer::accepted(0);
     let mut found = Listed { index: 0, answer };
+    let mut keep = next_listed(list, 0);
     loop {
-        let keep = next_listed(list, found.index);
         let to = found.answer.length;
         match writer::write_one(d, x.delimited, x.left, x.stop, at, least, keep, out, to) {
             OneWritten::Refused(fault) => return fault,
@@ -114,6 +128,7 @@ pub(crate) fn walk_list(list: &[u8], d: &[u8], x: Extent, out: &mut [u8]) -> Ans
                 to: past,
             } => {
                 found = merged(list, keep, found, tag, is_un, holds_un, past);
+                keep = wanted_behind(list, keep, tag, found.index);
                 at = next;
                 least = tag as u64 + 1;
             }

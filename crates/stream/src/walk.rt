@@ -23,19 +23,16 @@ pub enum SignatureItem {
     Item(Extent),
 }
 
-// Writes the signature item's own elements from `to` on, behind the listed ones.
-fn write_following(d: &[u8], item: SignatureItem, out: &mut [u8], to: usize) -> Answer
+// Writes the own elements of the signature item in x from `to` on, behind the listed ones.
+fn write_following(d: &[u8], x: Extent, out: &mut [u8], to: usize) -> Answer
     requires { ⌜ to ≤ length (now d) ⌝ }
-    ensures { λ r. ⌜ FollowingWalk (now (d .entry)) item to r (now (out .entry)) (now (out .exit)) ⌝ }
+    ensures { λ r. ⌜ FollowingWalk (now (d .entry)) x to r (now (out .entry)) (now (out .exit)) ⌝ }
 {
-    let SignatureItem::Item(inside) = item else {
-        return Answer::accepted(to);
-    };
-    let outside = extent::outside_answer(d, inside);
+    let outside = extent::outside_answer(d, x);
     if outside.number != 0 {
         return outside;
     }
-    match own::write_own(d, inside, out, to) {
+    match own::write_own(d, x, out, to) {
         Written::Refused(fault) => fault,
         Written::Past {
             holds_un: _,
@@ -50,11 +47,14 @@ fn write_stream(list: &[u8], d: &[u8], x: Extent, item: SignatureItem, out: &mut
     requires { ⌜ (ascendingAnswer 0 0 (tagsIn (now list)) ≡ Spec.accepted 0) × Lies (now d) x ⌝ }
     ensures { λ r. ⌜ StreamWalk (now (list .entry)) (now (d .entry)) x item r (now (out .entry)) (now (out .exit)) ⌝ }
 {
+    let SignatureItem::Item(inside) = item else {
+        return listed::walk_list(list, d, x, out);
+    };
     let answer = listed::walk_list(list, d, x, out);
     if answer.number != 0 {
         return answer;
     }
-    write_following(d, item, out, answer.length)
+    write_following(d, inside, out, answer.length)
 }
 
 // Measures the stream of a list in the data set in x, and of a signature item: 10 to 12, the fault of the reading, 13 to 15, or the stream's

@@ -44,6 +44,12 @@ unfoldable pub nextListed : (tags : List ℕ) → Keep
 nextListed [] = keep.Nothing
 nextListed (wanted ∷ tags) = keep.Only wanted
 
+-- the same behind an element of this tag, by the tags that are left then: still the same where that element stood before it
+unfoldable pub wantedBehind : Keep → (tag : ℕ) (tags : List ℕ) → Keep
+wantedBehind keep.Unbarred tag tags = nextListed tags
+wantedBehind (keep.Only wanted) tag tags = if ltb tag wanted then keep.Only wanted else nextListed tags
+wantedBehind keep.Nothing tag tags = nextListed tags
+
 -- a refusal: no tag of the `count` tags is wanted any more
 abbrev pub stoppedOf : (count number index : ℕ) → Listed
 stoppedOf count number index = record { index = count; answer = refused number index }

@@ -23,10 +23,10 @@ unfoldable pub walkAnswer : (tags d : List ℕ) → (p item : Reading Elements) 
 walkAnswer tags d p item =
     (answerOf p orElse tagsAnswer 0 tags (treeOf p) orElse answerOf item) orElse accepted (length (signedStream tags (treeOf p) (treeOf item) d))
 
--- what follows the listed elements, from `to` on: the signature item's own
-pub record FollowingWalk (d : List ℕ) (item : SignatureItem) (to : ℕ) (r : Answer) (before after : List ℕ) : Type 0 where
-  pub answers : r ≡ (answerOf (itemReading d item) orElse accepted (to + length (ownStream (treeOf (itemReading d item)) d)))
-  pub output : r .number ≡ 0 → after ≡ sets before to (ownStream (treeOf (itemReading d item)) d)
+-- what follows the listed elements, from `to` on: the own elements of the signature item in x
+pub record FollowingWalk (d : List ℕ) (x : Extent) (to : ℕ) (r : Answer) (before after : List ℕ) : Type 0 where
+  pub answers : r ≡ (answerOf (elementsIn d x) orElse accepted (to + length (ownStream (treeOf (elementsIn d x)) d)))
+  pub output : r .number ≡ 0 → after ≡ sets before to (ownStream (treeOf (elementsIn d x)) d)
   pub short : r .number ≡ 0 → r .length ≤ to + length d
 
 -- all of it

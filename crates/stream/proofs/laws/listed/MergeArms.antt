@@ -14,7 +14,7 @@ use Rattle.slices.specs.If.{if_then_else_}
 use Rattle.answer.specs.Answer.{accepted, refused}
 use Rattle.dataset.specs.Bytes.{tagAt}
 use Rattle.stream.specs.TagList.{tagsIn}
-use Rattle.stream.specs.Inner.Listed.{nextListed, stoppedOf, mergedOf, endedOf}
+use Rattle.stream.specs.Inner.Listed.{nextListed, stoppedOf, mergedOf, endedOf, wantedBehind}
 use Rattle.stream.specs.declared.listed.Listed.{Listed}
 use Rattle.stream.specs.declared.keep.Keep.{Keep}
 use Rattle.stream.specs.declared.keep.Keep.the-variants as keep
@@ -84,3 +84,23 @@ module _ (count : ℕ) (k : Keep) (s : Listed) (tag : ℕ) (unknown holds : Bool
           → _≡_ {A = Listed} (record { index = s .index + 1; answer = a }) (mergedOf count k s tag unknown holds to)
       unfolding if_then_else_
       merged-found a u v w = rw w (sym (here ∙ rw (u, v)))
+
+-- ---- the element that is wanted next
+module _ (k : Keep) (tag : ℕ) (tags : List ℕ) where
+  pub behind-none : (r : Keep) → NotOnly k → r ≡ nextListed tags → r ≡ wantedBehind k tag tags
+  unfolding wantedBehind
+  behind-none r h q = go k h
+    where
+      go : (j : Keep) → NotOnly j → r ≡ wantedBehind j tag tags
+      go keep.Unbarred h = q
+      go (keep.Only wanted) h = absurd (not-only wanted h)
+      go keep.Nothing h = q
+
+  module _ (wanted : ℕ) (e : k ≡ keep.Only wanted) where
+    pub behind-same : tag < wanted → keep.Only wanted ≡ wantedBehind k tag tags
+    unfolding wantedBehind if_then_else_
+    behind-same h = rw (e, lt-ltb tag wanted h)
+
+    pub behind-next : (r : Keep) → wanted ≤ tag → r ≡ nextListed tags → r ≡ wantedBehind k tag tags
+    unfolding wantedBehind if_then_else_
+    behind-next r h q = q ∙ rw (e, le-ltb tag wanted h)

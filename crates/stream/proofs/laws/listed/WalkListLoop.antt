@@ -24,12 +24,13 @@ use Rattle.stream.specs.UN.{isUN, holdsUN}
 use Rattle.stream.specs.Listed.{elementAnswer, tagsAnswer}
 use Rattle.stream.specs.Inner.Keep.{keeps}
 use Rattle.stream.specs.Inner.Writer.{oneStream, oneWalked, Walk}
-use Rattle.stream.specs.Inner.Listed.{listedAnswer, ListedLeaves, ListWalk, nextListed, stoppedOf, mergedOf, endedOf}
+use Rattle.stream.specs.Inner.Listed.{listedAnswer, ListedLeaves, ListWalk, nextListed, stoppedOf, mergedOf, endedOf, wantedBehind}
 use Rattle.dataset.specs.Place.{Lies}
 use Rattle.dataset.specs.Extent.{elementsIn}
 use Rattle.dataset.specs.declared.extent.Extent.{Extent}
 use Rattle.stream.specs.declared.listed.Listed.{Listed}
 use Rattle.stream.specs.declared.keep.Keep.{Keep}
+use Rattle.stream.specs.declared.keep.Keep.the-variants as keep
 use Rattle.stream.specs.declared.writer.OneWritten.{OneWritten}
 use Rattle.stream.specs.declared.writer.OneWritten.the-variants as one
 use Rattle.stream.proofs.laws.tag_list.TagChecks.{tags-more, tags-none}
@@ -49,22 +50,24 @@ pub record State (l : List ℕ) (at least : ℕ) (s : Listed) : Type 0 where
   pub fine : s .index < length l / 4 → s .answer .number ≡ 0
   pub form : s .answer .number ≡ 0 → s .answer ≡ accepted (s .answer .length)
 
-pub record ListLoop (l d : List ℕ) (x : Extent) (xs₀ xs : List ℕ) (at least : ℕ) (s : Listed) : Type 0 where
+pub record ListLoop (l d : List ℕ) (x : Extent) (xs₀ xs : List ℕ) (at least : ℕ) (s : Listed) (c : Keep) : Type 0 where
   pub inside : at ≤ x .stop
   pub within : x .stop ≤ length d
   pub below : s .answer .length ≤ at
   pub state : State l at least s
+  pub wanted : c ≡ nextListed (from l (s .index))
   pub on : On d (elementsIn d x) (accepted 0) 0 (tagsIn l) xs₀ (elementsAt explicit d (x .delimited) (x .left) (x .stop) at least) (s .answer) (s .index) (from l (s .index)) xs
   pub long : length xs ≡ length xs₀
 
-pub list-start : (l d : List ℕ) (x : Extent) (xs : List ℕ) (a : Answer) → ascendingAnswer 0 0 (tagsIn l) ≡ accepted 0 → Lies d x → a ≡ accepted 0
-    → ListLoop l d x xs xs (x .from) 0 (record { index = 0; answer = a })
-list-start l d x xs a o lies e =
+pub list-start : (l d : List ℕ) (x : Extent) (xs : List ℕ) (a : Answer) (c : Keep) → ascendingAnswer 0 0 (tagsIn l) ≡ accepted 0 → Lies d x → a ≡ accepted 0
+    → c ≡ nextListed (from l 0) → ListLoop l d x xs xs (x .from) 0 (record { index = 0; answer = a }) c
+list-start l d x xs a c o lies e k =
     rw e record {
       inside = lies .order;
       within = lies .inside;
       below = omega arith;
       state = record { below = omega arith; few = omega arith; order = o; fine = λ h. refl; form = λ h. refl };
+      wanted = k;
       on = record { answers = refl; output = λ zs k. k };
       long = refl;
     }
@@ -181,6 +184,21 @@ turned l d xs ys left at next least past c s s′ e tag unknown holds q i a b m 
     let t = turn l d xs ys left at next least past c s s′ e q i (omega arith) (omega (arith, i .below)) m y (rw f lie) (from l (s .index)) refl k (rw (f, g, h) z) in
     (t .on, rw f at (t .state))
 
+-- the element that is wanted then
+still-wanted : (l : List ℕ) (count : ℕ) (c c′ : Keep) (s s′ : Listed) (tag : ℕ) (unknown holds : Bool) (past : ℕ) → c ≡ nextListed (from l (s .index))
+    → s′ ≡ mergedOf count c s tag unknown holds past → c′ ≡ wantedBehind c tag (from l (s′ .index)) → c′ ≡ nextListed (from l (s′ .index))
+unfolding wantedBehind mergedOf if_then_else_
+still-wanted l count keep.Unbarred c′ s s′ tag unknown holds past k z q = q
+still-wanted l count keep.Nothing c′ s s′ tag unknown holds past k z q = q
+still-wanted l count (keep.Only wanted) c′ s s′ tag unknown holds past k z q = go (ltb tag wanted) refl z q
+  where
+    go : (b : Bool) → ltb tag wanted ≡ b
+        → s′ ≡ (if b then s else if ltb wanted tag then stoppedOf count 13 (s .index) else if unknown then stoppedOf count 14 (s .index)
+        else if holds then stoppedOf count 15 (s .index) else record { index = s .index + 1; answer = accepted past })
+        → c′ ≡ (if b then keep.Only wanted else nextListed (from l (s′ .index))) → c′ ≡ nextListed (from l (s′ .index))
+    go true e y w = w ∙ k ∙ ap (λ (t : Listed). nextListed (from l (t .index))) (sym y)
+    go false e y w = w
+
 -- a fault has length 0
 fault-length : (d : List ℕ) (x : Extent) (at least : ℕ) (f : Answer) → at ≤ x .stop → elementsAt explicit d (x .delimited) (x .left) (x .stop) at least ≡ fault f → f .length ≡ 0
 unfolding elementsAt
@@ -189,7 +207,7 @@ fault-length d x at least f h e =
     w .nothing
 
 -- ---- a turn of the loop: r is what the walk over one element answers, and ys what it leaves
-module _ (l d : List ℕ) (x : Extent) (xs₀ xs : List ℕ) (at least : ℕ) (s : Listed) (i : ListLoop l d x xs₀ xs at least s) (c : Keep) (k : c ≡ nextListed (from l (s .index))) (r : OneWritten) (ys : List ℕ)
+module _ (l d : List ℕ) (x : Extent) (xs₀ xs : List ℕ) (at least : ℕ) (s : Listed) (c : Keep) (i : ListLoop l d x xs₀ xs at least s c) (r : OneWritten) (ys : List ℕ)
     (w : Walk (oneWalked (keeps c)) (oneStream (keeps c)) (oneAt explicit d (x .delimited) (x .left) (x .stop) at least) d (s .answer .length) r xs ys) where
   ended-length : (tags : List ℕ) → endedOf tags s .length ≤ at
   unfolding endedOf
@@ -229,15 +247,16 @@ module _ (l d : List ℕ) (x : Extent) (xs₀ xs : List ℕ) (at least : ℕ) (s
         let lies = walk.one-lies (keeps c) d (x .delimited) (x .left) (x .stop) at least (s .answer .length) r xs ys (i .inside) w tag unknown holds next past q (i .within) in
         omega (arith, lies .past, lies .inside)
 
-    pub list-again : (s′ : Listed) → s′ ≡ mergedOf (length l / 4) c s tag unknown holds past → ListLoop l d x xs₀ ys next (tag + 1) s′
-    list-again s′ z =
+    pub list-again : (s′ : Listed) (c′ : Keep) → s′ ≡ mergedOf (length l / 4) c s tag unknown holds past → c′ ≡ wantedBehind c tag (from l (s′ .index))
+        → ListLoop l d x xs₀ ys next (tag + 1) s′ c′
+    list-again s′ c′ z j =
         let e = walk.one-found (keeps c) d (x .delimited) (x .left) (x .stop) at least (s .answer .length) r xs ys (i .inside) w tag unknown holds next past q in
         let lies = walk.one-lies (keeps c) d (x .delimited) (x .left) (x .stop) at least (s .answer .length) r xs ys (i .inside) w tag unknown holds next past q (i .within) in
         let n = walk.one-next (keeps c) d (x .delimited) (x .left) (x .stop) at least (s .answer .length) r xs ys (i .inside) w tag unknown holds next past q in
         let y = walk.one-output (keeps c) d (x .delimited) (x .left) (x .stop) at least (s .answer .length) r xs ys (i .inside) w tag unknown holds next past q in
         let b = walk.one-below (keeps c) d (x .delimited) (x .left) (x .stop) at least (s .answer .length) r xs ys (i .inside) w tag unknown holds next past q (i .within) in
         let t = turned l d xs ys (x .left) at next least past c s s′ (e .what) tag unknown holds (elementsAt explicit d (x .delimited) (x .left) (x .stop) next (tag + 1)) (i .state) (lies .past)
-        b (e .passes) y (e .tagged) (e .unknowns) (e .holding) k z
+        b (e .passes) y (e .tagged) (e .unknowns) (e .holding) (i .wanted) z
         (λ es m h. holds-read (ElementsIn d (x .delimited) (x .left) (x .stop) (tag + 1) next) (elementsAt explicit d (x .delimited) (x .left) (x .stop) next (tag + 1)) es m
         (elements-read d (x .left) (x .stop) next (i .within) (x .delimited) (tag + 1)) h .tree) in
         record {
@@ -245,6 +264,7 @@ module _ (l d : List ℕ) (x : Extent) (xs₀ xs : List ℕ) (at least : ℕ) (s
           within = i .within;
           below = t .1 .below;
           state = t .1;
+          wanted = still-wanted l (length l / 4) c c′ s s′ tag unknown holds past (i .wanted) z j;
           on = on-trans d (elementsIn d x) (accepted 0) 0 (tagsIn l) xs₀ (elementsAt explicit d (x .delimited) (x .left) (x .stop) at least) (s .answer) (s .index) (from l (s .index)) xs
               (elementsAt explicit d (x .delimited) (x .left) (x .stop) next (tag + 1)) (s′ .answer) (s′ .index) (from l (s′ .index)) ys (i .on) (rw n (t .0));
           long = ap length y ∙ length-sets xs (s .answer .length) (oneStream (keeps c) (element (e .what)) d) ∙ i .long;

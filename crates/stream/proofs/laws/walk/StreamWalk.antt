@@ -2,10 +2,13 @@
 use Prim.Native.Nat.{ℕ, _+_, _≤_}
 use native.Mathlib.Nat.{zero-add}
 use mathlib.Core.Path.{_≡_, refl, sym, ap, _∙_}
+use mathlib.Core.Bool.{Bool, true, false}
 use mathlib.Core.List.{List, _++_}
 use native.Mathlib.Omega.{arith}
+use lib.Dec.{eqb}
 use lib.ListN.{length, length-append}
 use lib.Seq.{sets}
+use borrow.Author.Tests.{eqb-true, eqb-false}
 use Rattle.answer.specs.declared.Answer.{Answer}
 use Rattle.answer.specs.Answer.{accepted, _orElse_}
 use Rattle.answer.proofs.laws.Chain.{or-else-first, or-else-second, both-accepted}
@@ -16,13 +19,15 @@ use Rattle.dataset.specs.Place.{Lies}
 use Rattle.dataset.specs.Extent.{elementsIn}
 use Rattle.dataset.specs.declared.extent.Extent.{Extent}
 use Rattle.stream.specs.TagList.{tagsIn}
-use Rattle.stream.specs.Stream.{listedStream}
+use Rattle.stream.specs.Stream.{elementsStream, listedStream}
+use Rattle.stream.specs.Own.{own}
 use Rattle.stream.specs.Listed.{tagsAnswer}
 use Rattle.stream.specs.Walk.{itemReading, signedStream, streamIn}
 use Rattle.stream.specs.Inner.Own.{ownStream}
 use Rattle.stream.specs.Inner.Listed.{listedAnswer, ListedLeaves, ListWalk}
 use Rattle.stream.specs.Inner.Walk.{walkAnswer, FollowingWalk, StreamWalk}
 use Rattle.stream.specs.declared.walk.SignatureItem.{SignatureItem}
+use Rattle.stream.specs.declared.walk.SignatureItem.the-variants as signatureItem
 use Rattle.stream.proofs.laws.walk.Following.{fault-number}
 
 -- ---- the answer, by what the data set and the signature item read
@@ -101,11 +106,11 @@ module _ (l d : List ℕ) (x : Extent) (a : Answer) (xs ys : List ℕ) (lies : L
   all-refused item h =
       record { answers = refused-by (itemReading d item) (elementsIn d x) (w .answers) h; output = λ z. absurd (h z); short = λ z. absurd (h z) }
 
-  -- what follows is written; r is what it answers, and zs what it leaves
   pub follows-short : a .length ≤ length d
   follows-short = w .short
 
-  module _ (h : a .number ≡ 0) (item : SignatureItem) (r : Answer) (zs : List ℕ) (o : FollowingWalk d item (a .length) r ys zs) where
+  -- what follows, by what the signature item reads: r is the answer, and zs what is left
+  module _ (h : a .number ≡ 0) (item : SignatureItem) (r : Answer) (zs : List ℕ) where
     abbrev g : ListedRead l d x a xs ys
     g = listed-read h
 
@@ -122,13 +127,31 @@ module _ (l d : List ℕ) (x : Extent) (a : Answer) (xs ys : List ℕ) (lies : L
     unfolding streamIn signedStream ownStream
     stream-is = ap (λ (p : Reading Elements). signedStream (tagsIn l) (treeOf p) (treeOf (itemReading d item)) d) (g .reads)
 
-    pub all-written : StreamWalk l d x item r xs zs
-    all-written = record {
+    follows : r ≡ (answerOf (itemReading d item) orElse accepted (a .length + length after)) → (r .number ≡ 0 → zs ≡ sets ys (a .length) after)
+        → (r .number ≡ 0 → r .length ≤ a .length + length d) → StreamWalk l d x item r xs zs
+    follows q o k = record {
       answers =
-          o .answers ∙ ap (λ (i : ℕ). answerOf (itemReading d item) orElse accepted (i + length after)) length-is
+          q ∙ ap (λ (i : ℕ). answerOf (itemReading d item) orElse accepted (i + length after)) length-is
           ∙ sym (ap (λ (p : Reading Elements). walkAnswer (tagsIn l) d p (itemReading d item)) (g .reads) ∙ walk-on (tagsIn l) d (g .elements) (g .next) (itemReading d item) (g .found));
       output = λ z.
-          o .output z ∙ ap (λ (i : ℕ). sets ys i after) length-is ∙ ap (λ (v : List ℕ). sets v (length s) after) (g .output)
+          o z ∙ ap (λ (i : ℕ). sets ys i after) length-is ∙ ap (λ (v : List ℕ). sets v (length s) after) (g .output)
           ∙ sym (ap (sets xs 0) stream-is ∙ sets-append xs 0 s after ∙ ap (λ (i : ℕ). sets (sets xs 0 s) i after) (zero-add (length s)));
-      short = λ z. omega (arith, w .short, o .short z);
+      short = λ z. omega (arith, w .short, k z);
     }
+
+  -- list mode: nothing follows
+  pub listed-alone : (item : SignatureItem) → item ≡ signatureItem.Absent → StreamWalk l d x item a xs ys
+  unfolding ownStream own elementsStream
+  listed-alone item e = go (eqb (a .number) 0) refl
+    where
+      go : (b : Bool) → eqb (a .number) 0 ≡ b → StreamWalk l d x item a xs ys
+      go true t =
+          let h = eqb-true (a .number) 0 t in
+          let q = listed-read h .long in
+          let n = ap (λ (z : Answer). z .length) q in
+          rw e (follows h signatureItem.Absent a ys (q ∙ sym (or-else-second (accepted 0) _ refl ∙ ap accepted (omega (arith, n)))) (λ z. refl) (λ z. omega arith))
+      go false t = all-refused item (eqb-false (a .number) 0 t)
+
+  pub all-written : (h : a .number ≡ 0) (item : SignatureItem) (inside : Extent) → item ≡ signatureItem.Item inside
+      → (r : Answer) (zs : List ℕ) → FollowingWalk d inside (a .length) r ys zs → StreamWalk l d x item r xs zs
+  all-written h item inside e r zs o = rw e (follows h (signatureItem.Item inside) r zs (o .answers) (o .output) (o .short))

@@ -6,19 +6,19 @@ use Rattle.stream.proofs.listed.walk_list.Statement.{statement}
 use Rattle.stream.proofs.listed.walk_list.Tie as tie
 
 abbrev Inv-loop : tie.InvT-loop
-Inv-loop list d x out₀ at₀ least₀ found₀ out at least found = steps.ListLoop list d x out₀ out at least found
+Inv-loop list d x out₀ at₀ least₀ found₀ keep₀ out at least found keep = steps.ListLoop list d x out₀ out at least found keep
 
 abbrev μ-loop : tie.MeasureT-loop
-μ-loop list d x out₀ at₀ least₀ found₀ out at least found = x .stop - at
+μ-loop list d x out₀ at₀ least₀ found₀ keep₀ out at least found keep = x .stop - at
 
 accepted-requires : tie.Need-accepted-requires Inv-loop μ-loop
 accepted-requires c κs = search needs
 
-loop-holds : tie.Need-loop-holds Inv-loop μ-loop
-loop-holds c = search steps.list-start
-
 next-listed-requires : tie.Need-next-listed-requires Inv-loop μ-loop
 next-listed-requires c κs = search needs
+
+loop-holds : tie.Need-loop-holds Inv-loop μ-loop
+loop-holds c = search steps.list-start
 
 write-one-requires : tie.Need-write-one-requires Inv-loop μ-loop
 write-one-requires c κs = search needs
@@ -50,6 +50,9 @@ enum-known-tag c = search needs
 merged-requires : tie.Need-merged-requires Inv-loop μ-loop
 merged-requires c κs = search needs
 
+wanted-behind-requires : tie.Need-wanted-behind-requires Inv-loop μ-loop
+wanted-behind-requires c κs = search needs
+
 cast-least : tie.Need-cast-least Inv-loop μ-loop
 cast-least c = search needs
 
@@ -69,8 +72,8 @@ walk-list-spec =
     Inv-loop
     μ-loop
     accepted-requires
-    loop-holds
     next-listed-requires
+    loop-holds
     write-one-requires
     enum-known-fault
     same-length
@@ -81,6 +84,7 @@ walk-list-spec =
     returns-2
     enum-known-tag
     merged-requires
+    wanted-behind-requires
     cast-least
     add-least
     loop-less

@@ -5,23 +5,11 @@ use borrow.Author.Needs.{needs}
 use Rattle.stream.proofs.walk.write_following.Statement.{statement}
 use Rattle.stream.proofs.walk.write_following.Tie as tie
 
-enum-known-item : tie.Need-enum-known-item
-enum-known-item c = search needs
-
-enum-told : tie.Need-enum-told
-enum-told c = search needs
-
-accepted-requires : tie.Need-accepted-requires
-accepted-requires c κs = search needs
-
-returns : tie.Need-returns
-returns c = search steps.none-follows
-
 outside-answer-requires : tie.Need-outside-answer-requires
 outside-answer-requires c κs = search needs
 
-returns-2 : tie.Need-returns-2
-returns-2 c = search steps.follows-outside
+returns : tie.Need-returns
+returns c = search steps.follows-outside
 
 write-own-requires : tie.Need-write-own-requires
 write-own-requires c κs = (search inside-lies, search needs)
@@ -32,36 +20,32 @@ enum-known-fault c = search needs
 enum-known-past : tie.Need-enum-known-past
 enum-known-past c = search needs
 
-accepted-requires-2 : tie.Need-accepted-requires-2
-accepted-requires-2 c κs = search needs
+accepted-requires : tie.Need-accepted-requires
+accepted-requires c κs = search needs
 
 same-length : tie.Need-same-length
 same-length c = search needs
 
-returns-3 : tie.Need-returns-3
-returns-3 c = search steps.follows-refused
+returns-2 : tie.Need-returns-2
+returns-2 c = search steps.follows-refused
 
 same-length-2 : tie.Need-same-length-2
 same-length-2 c = search needs
 
-returns-4 : tie.Need-returns-4
-returns-4 c = search steps.follows-written
+returns-3 : tie.Need-returns-3
+returns-3 c = search steps.follows-written
 
 pub write-following-spec : {M : Type 1} → statement M
 write-following-spec =
     tie.close
     (tie.spec
-    enum-known-item
-    enum-told
-    accepted-requires
-    returns
     outside-answer-requires
-    returns-2
+    returns
     write-own-requires
     enum-known-fault
     enum-known-past
-    accepted-requires-2
+    accepted-requires
     same-length
-    returns-3
+    returns-2
     same-length-2
-    returns-4)
+    returns-3)
