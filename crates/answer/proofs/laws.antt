@@ -1,2 +1,2 @@
-pub mod Chain
+pub mod OrElse
 pub mod Refusals

@@ -95,13 +95,13 @@ module _ (h : Headers) where
   -- `left` is 16 less the level: of the data set that is read, or at which the sequence or the OB stands. Fragments have no levels below
   -- them: there it only says at which level the OB stands, and nothing is read by it.
   unfoldable pub fragmentsBy : ℕ → List ℕ → (left stop at : ℕ) → Reading (List Span)
-  fragmentsBy zero d left stop at = fault (answer.refused 0 at)
+  fragmentsBy zero d left stop at = fault (faultAt 0 at)
   fragmentsBy (suc n) d left stop at = byFragment (fragmentsBy n d left stop) (h .item d false true stop at)
 
   -- "those in the items of a sequence at level n are at level n + 1" (2.3); tag order starts anew in each item
   unfoldable mutual
     pub elementsBy : ℕ → List ℕ → (delimited : Bool) (left stop at least : ℕ) → Reading Elements
-    elementsBy zero d delimited left stop at least = fault (answer.refused 0 at)
+    elementsBy zero d delimited left stop at least = fault (faultAt 0 at)
     elementsBy (suc n) d delimited left stop at least =
         byHeader
         (λ inner end start. itemsBy n d inner left end start)
@@ -111,7 +111,7 @@ module _ (h : Headers) where
         >>= byOne (λ next above. elementsBy n d delimited left stop next above)
 
     pub itemsBy : ℕ → List ℕ → (delimited : Bool) (left stop at : ℕ) → Reading Items
-    itemsBy zero d delimited left stop at = fault (answer.refused 0 at)
+    itemsBy zero d delimited left stop at = fault (faultAt 0 at)
     itemsBy (suc n) d delimited left stop at =
         byItem
         (λ inner end start. elementsBy n d inner (deeper left) end start 0)

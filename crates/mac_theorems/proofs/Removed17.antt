@@ -10,7 +10,7 @@ use native.Mathlib.Omega.{arith}
 use Rattle.slices.specs.If.{if_then_else_}
 use Rattle.answer.specs.declared.Answer.{Answer}
 use Rattle.answer.specs.Answer.{refused, _orElse_}
-use Rattle.answer.proofs.laws.Chain.{or-else-first, or-else-same, or-else-assoc}
+use Rattle.answer.proofs.laws.OrElse.{or-else-first, or-else-same, or-else-assoc}
 use Rattle.dataset.specs.Tree.{Element, Elements, Items, tagOf}
 use Rattle.dataset.specs.Reading.{sizeAnswer, dataSet, answerOf, tree}
 use Rattle.dataset.proofs.laws.Bools.{neither}

@@ -9,7 +9,7 @@ use lib.Dec.{ltb}
 use lib.ListN.{length}
 use Rattle.slices.specs.If.{if_then_else_}
 use Rattle.answer.specs.Answer.{accepted}
-use Rattle.answer.proofs.laws.Chain.{or-else-second, both-accepted, passed}
+use Rattle.answer.proofs.laws.OrElse.{or-else-second, both-accepted, passed}
 use Rattle.stream.specs.Walk.{answerFrom16}
 use Rattle.mac.specs.Modes.{badDigestLength, answerFrom9}
 

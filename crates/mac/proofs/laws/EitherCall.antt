@@ -10,7 +10,7 @@ use borrow.Author.Tests.{ne-eqb}
 use Rattle.slices.specs.If.{if_then_else_}
 use Rattle.answer.specs.declared.Answer.{Answer}
 use Rattle.answer.specs.Answer.{accepted, refused, _orElse_}
-use Rattle.answer.proofs.laws.Chain.{or-else-first, or-else-second, or-else-itself, both-accepted}
+use Rattle.answer.proofs.laws.OrElse.{or-else-first, or-else-second, or-else-itself, both-accepted}
 use Rattle.dataset.specs.Tree.{Elements}
 use Rattle.dataset.specs.Lookup.{elementOf}
 use Rattle.dataset.specs.declared.extent.Extent.{Extent}
@@ -18,7 +18,7 @@ use Rattle.stream.specs.Listed.{elementAnswer, tagsAnswer}
 use Rattle.stream.specs.Walk.{answerFrom16, leftIn, WrittenAs}
 use Rattle.stream.specs.Walk as walk
 use Rattle.stream.specs.declared.walk.SignatureItem.{SignatureItem}
-use Rattle.stream.proofs.laws.walk.Writing.{written-fits}
+use Rattle.stream.proofs.laws.walk.WriteMeasured.{written-fits}
 use Rattle.mac.specs.Modes.{badDigestLength, answerFrom9}
 use Rattle.mac.specs.Result.{Result, outputAfter}
 use Rattle.mac.specs.Inner.Verdict.{lengthOf, lengthAnswer}

@@ -1,4 +1,4 @@
 pub mod Following
 pub mod Measuring
 pub mod StreamWalk
-pub mod Writing
+pub mod WriteMeasured

@@ -16,8 +16,7 @@ use Rattle.dataset.specs.declared.extent.Extent.{Extent}
 use Rattle.dataset.specs.declared.extent.OpenedItem as itemEnum
 use Rattle.dataset.specs.declared.extent.OpenedItem.the-variants as opened
 use Rattle.dataset.proofs.laws.header.HeaderFacts.{ItemFacts, ItemSpan, item-facts}
-use Rattle.dataset.proofs.laws.reading.Bounded.{explicit-bounded}
-use Rattle.dataset.proofs.laws.reading.Unfolding.{items-are}
+use Rattle.dataset.proofs.laws.reading.Unfolding.{items-by}
 use Rattle.dataset.proofs.laws.reading.Outcomes.{elements-next}
 
 -- the items of an extent from `at` on
@@ -59,19 +58,15 @@ module _ (d : List ℕ) (x : Extent) (at : ℕ) (r : itemEnum.OpenedItem) (e : o
   answered p q = sym e ∙ ap openedCase q
 
   module _ (h : at ≤ x .stop) where
-    items-by : (p : ItemHeader) → itemAt d true (x .delimited) (x .stop) at ≡ p
-        → itemsFrom d x at ≡ byItem (λ inner end start. elementsAt explicit d inner (deeper (x .left)) end start 0) (itemsFrom d x) at p
-    items-by p q = rw (items-are explicit explicit-bounded d (x .delimited) (x .left) (x .stop) at h, q)
-
     pub items-refused : (f : Answer) → r ≡ opened.Refused f → itemsFrom d x at ≡ fault f
     unfolding byItem
     items-refused f q =
         let k = is-refused (x .left) (itemAt d true (x .delimited) (x .stop) at) f (answered (opened.Refused f) q) in
-        items-by (ItemHeader.refused (k .number) (k .position)) (k .is) ∙ ap fault (k .fault-is)
+        items-by d (x .delimited) (x .left) (x .stop) at h (ItemHeader.refused (k .number) (k .position)) (k .is) ∙ ap fault (k .fault-is)
 
     pub items-end : (next : ℕ) → r ≡ opened.End next → itemsFrom d x at ≡ read Items.last next
     unfolding byItem
-    items-end next q = items-by (ItemHeader.ends next) (is-end (x .left) (itemAt d true (x .delimited) (x .stop) at) next (answered (opened.End next) q))
+    items-end next q = items-by d (x .delimited) (x .left) (x .stop) at h (ItemHeader.ends next) (is-end (x .left) (itemAt d true (x .delimited) (x .stop) at) next (answered (opened.End next) q))
 
   module _ (inside : Extent) (q : r ≡ opened.Item inside) where
     it : IsItem (x .left) (itemAt d true (x .delimited) (x .stop) at) inside
@@ -90,7 +85,7 @@ module _ (d : List ℕ) (x : Extent) (at : ℕ) (r : itemEnum.OpenedItem) (e : o
     pub items-are-one : (h : at ≤ x .stop) → itemsFrom d x at
         ≡ (elementsIn d inside >>= λ (es, next). itemsFrom d x next >>= λ (rest, after). read (Items.item at es rest) after)
     unfolding byItem
-    items-are-one h = rw (it .deep) (items-by h (ItemHeader.item (inside .from) (inside .stop) (inside .delimited)) (it .is))
+    items-are-one h = rw (it .deep) (items-by d (x .delimited) (x .left) (x .stop) at h (ItemHeader.item (inside .from) (inside .stop) (inside .delimited)) (it .is))
 
     pub item-past : (es : Elements) (next : ℕ) → elementsIn d inside ≡ read es next → (at < next) × (next ≤ x .stop)
     item-past es next w =

@@ -18,8 +18,7 @@ use Rattle.dataset.specs.Inner.Outcomes.{orNext}
 use Rattle.dataset.specs.declared.lookup.Found.{Found}
 use Rattle.dataset.specs.declared.reading.OneOutcome.{OneOutcome}
 use Rattle.dataset.specs.declared.reading.OneOutcome.the-variants as one
-use Rattle.dataset.proofs.laws.reading.Bounded.{explicit-bounded}
-use Rattle.dataset.proofs.laws.reading.Unfolding.{elements-are}
+use Rattle.dataset.proofs.laws.reading.Unfolding.{elements-by}
 use Rattle.dataset.proofs.laws.reading.Outcomes.{IsElement, is-element, is-one-fault, is-one-end}
 use Rattle.dataset.proofs.laws.reading.Loops.{answered, one-past, data-set-is, size-refused}
 use Rattle.dataset.proofs.laws.reading.Guarantees.{holds-read, OneIs, ElementIn, one-read, data-set-read}
@@ -90,10 +89,6 @@ before-front size tag f e (read es n) k g =
 
 -- ---- a turn of the loop: r is what the reader of one element answers
 module _ (d : List ℕ) (tag at least : ℕ) (r : OneOutcome) (e : oneCase r ≡ handedOn (oneAt explicit d false levels (length d) at least)) (f : Found) (i : FindLoop d tag at least f) where
-  is : (o : Reading One) → oneAt explicit d false levels (length d) at least ≡ o
-      → elementsAt explicit d false levels (length d) at least ≡ (o >>= byOne (elementsAt explicit d false levels (length d)))
-  is o q = rw (elements-are explicit explicit-bounded d false levels (length d) at least (i .inside), q)
-
   so : length d ≤ sizeLimit → (x : Found) → withBefore (length d) tag f (elementsAt explicit d false levels (length d) at least) ≡ x → found d tag ≡ x
   unfolding found
   so h x q = rw (data-set-is d h) (i .same ∙ q)
@@ -101,19 +96,19 @@ module _ (d : List ℕ) (tag at least : ℕ) (r : OneOutcome) (e : oneCase r ≡
   pub find-refused : (g : Answer) (x : Found) → length d ≤ sizeLimit → r ≡ one.Refused g → x ≡ absent g (length d) → x ≡ found d tag
   unfolding withBefore
   find-refused g x h q w =
-      w ∙ sym (so h (absent g (length d)) (rw (is (fault g) (is-one-fault (oneAt explicit d false levels (length d) at least) g (answered d false levels (length d) at least r e (i .inside) ∙ q)))))
+      w ∙ sym (so h (absent g (length d)) (rw (elements-by d false levels (length d) at least (i .inside) (fault g) (is-one-fault (oneAt explicit d false levels (length d) at least) g (answered d false levels (length d) at least r e (i .inside) ∙ q)))))
 
   pub find-end : (next : ℕ) → length d ≤ sizeLimit → r ≡ one.End next → f ≡ found d tag
   unfolding byOne withBefore elementOf foundOf
   find-end next h q =
-      sym (so h f (rw (is (read ended next) (is-one-end (oneAt explicit d false levels (length d) at least) next (answered d false levels (length d) at least r e (i .inside) ∙ q))) (i .kept)))
+      sym (so h f (rw (elements-by d false levels (length d) at least (i .inside) (read ended next) (is-one-end (oneAt explicit d false levels (length d) at least) next (answered d false levels (length d) at least r e (i .inside) ∙ q))) (i .kept)))
 
   after : (x : Element) (next : ℕ) → oneAt explicit d false levels (length d) at least ≡ read (element x) next
       → withBefore (length d) tag f (elementsAt explicit d false levels (length d) at least)
       ≡ withBefore (length d) tag (orNext f (eqb (tagOf x) tag) (present (spanOf x .start) (spanOf x .end))) (elementsAt explicit d false levels (length d) next (tagOf x + 1))
   unfolding byOne
   after x next q =
-      rw (is (read (element x) next) q)
+      rw (elements-by d false levels (length d) at least (i .inside) (read (element x) next) q)
       (before-front (length d) tag f x (elementsAt explicit d false levels (length d) next (tagOf x + 1)) _ λ es n. refl)
 
   module _ (here vr start end next : ℕ) (q : r ≡ one.Element here vr start end next) where

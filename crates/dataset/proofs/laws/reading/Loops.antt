@@ -25,7 +25,7 @@ use Rattle.dataset.proofs.laws.header.HeaderFacts.{ItemFacts, item-fact
 use Rattle.dataset.proofs.laws.reading.Bounded.{explicit-bounded}
 use Rattle.dataset.proofs.laws.reading.Within.{OneIn, one-in}
 use Rattle.dataset.proofs.laws.reading.Levels.{deeper-falls}
-use Rattle.dataset.proofs.laws.reading.Unfolding.{fragments-are, elements-are, items-are}
+use Rattle.dataset.proofs.laws.reading.Unfolding.{elements-by, items-by, fragments-by}
 use Rattle.dataset.proofs.laws.reading.Outcomes.{last, then-next, is-fault, is-read, elements-next, handed-back, is-one-fault, is-one-end, IsElement, is-element}
 
 -- ---- the loops' invariants: `at` lies in the extent, and what is read from `from` on is answered as what is read from `at` on
@@ -51,7 +51,7 @@ module _ (d : List ℕ) (stop at : ℕ) (r : ItemHeader) (e : itemCase r ≡ ite
 
   module _ (left : ℕ) (h : at ≤ stop) where
     fragments-at : (p : ItemHeader) → r ≡ p → fragmentsAt explicit d left stop at ≡ byFragment (fragmentsAt explicit d left stop) (itemCase p)
-    fragments-at p q = rw (fragments-are explicit explicit-bounded d left stop at h, sym e ∙ ap itemCase q)
+    fragments-at p q = fragments-by d left stop at h (itemCase p) (sym e ∙ ap itemCase q)
 
     pub fragments-refused : (number position : ℕ) (f : Answer) (R : Outcome) → r ≡ place.Refused number position → f ≡ faultAt number position
         → R ≡ outcomeOf (fragmentsAt explicit d left stop at) → outcome.Refused f ≡ R
@@ -74,19 +74,15 @@ module _ (d : List ℕ) (delimited : Bool) (left stop at least : ℕ) (r : OneOu
   pub answered : oneOutcomeOf (oneAt explicit d delimited left stop at least) ≡ r
   answered = sym (handed-back (oneAt explicit d delimited left stop at least) r e)
 
-  pub elements-at : (o : Reading One) → oneAt explicit d delimited left stop at least ≡ o
-      → elementsAt explicit d delimited left stop at least ≡ (o >>= byOne (elementsAt explicit d delimited left stop))
-  elements-at o q = rw (elements-are explicit explicit-bounded d delimited left stop at least h, q)
-
   pub elements-refused : (f : Answer) (R : Outcome) → r ≡ one.Refused f
       → R ≡ outcomeOf (elementsAt explicit d delimited left stop at least) → outcome.Refused f ≡ R
   elements-refused f R q i =
-      sym (i ∙ ap outcomeOf (elements-at (fault f) (is-one-fault (oneAt explicit d delimited left stop at least) f (answered ∙ q))))
+      sym (i ∙ ap outcomeOf (elements-by d delimited left stop at least h (fault f) (is-one-fault (oneAt explicit d delimited left stop at least) f (answered ∙ q))))
 
   pub elements-end : (next : ℕ) (R : Outcome) → r ≡ one.End next → R ≡ outcomeOf (elementsAt explicit d delimited left stop at least) → outcome.Next next ≡ R
   unfolding byOne
   elements-end next R q i =
-      sym (i ∙ ap outcomeOf (elements-at (read ended next) (is-one-end (oneAt explicit d delimited left stop at least) next (answered ∙ q))))
+      sym (i ∙ ap outcomeOf (elements-by d delimited left stop at least h (read ended next) (is-one-end (oneAt explicit d delimited left stop at least) next (answered ∙ q))))
 
   module _ (tag vr start end next : ℕ) (q : r ≡ one.Element tag vr start end next) where
     pub one-found : IsElement (oneAt explicit d delimited left stop at least) tag vr start end next
@@ -102,7 +98,7 @@ module _ (d : List ℕ) (delimited : Bool) (left stop at least : ℕ) (r : OneOu
     unfolding byOne
     elements-again from i = record {
       inside = one-past .1;
-      same = i .same ∙ rw (elements-at (read (element (one-found .what)) next) (one-found .is), one-found .tagged)
+      same = i .same ∙ rw (elements-by d delimited left stop at least h (read (element (one-found .what)) next) (one-found .is), one-found .tagged)
           (last (elementsAt explicit d delimited left stop next (tag + 1)) _ λ b m. refl);
     }
 
@@ -114,7 +110,7 @@ module _ (d : List ℕ) (delimited : Bool) (stop at : ℕ) (r : ItemHeader) (e :
   module _ (left : ℕ) (h : at ≤ stop) where
     items-at : (p : ItemHeader) → r ≡ p → itemsAt explicit d delimited left stop at
         ≡ byItem (λ inner end start. elementsAt explicit d inner (deeper left) end start 0) (itemsAt explicit d delimited left stop) at (itemCase p)
-    items-at p q = rw (items-are explicit explicit-bounded d delimited left stop at h, sym e ∙ ap itemCase q)
+    items-at p q = items-by d delimited left stop at h (itemCase p) (sym e ∙ ap itemCase q)
 
     pub items-refused : (number position : ℕ) (f : Answer) (R : Outcome) → r ≡ place.Refused number position → f ≡ faultAt number position
         → R ≡ outcomeOf (itemsAt explicit d delimited left stop at) → outcome.Refused f ≡ R

@@ -5,10 +5,10 @@ use mathlib.Core.Path.{_≡_, refl, ap, _∙_}
 use mathlib.Core.Bool.{Bool, true, false}
 use mathlib.Core.List.{List}
 use native.Mathlib.Omega.{arith}
-use Rattle.dataset.specs.Header.{ElementHeader, ItemHeader}
+use Rattle.dataset.specs.Header.{ElementHeader, ItemHeader, itemAt}
 use Rattle.dataset.specs.Tree.{Span, Elements, Items, tagOf}
-use Rattle.dataset.specs.Reading.{Reading, fault, read, _>>=_, One, ended, element, Headers, byHeader, byOne, byItem, byFragment, fragmentsBy, elementsBy, itemsBy, fragmentsAt, elementsAt, itemsAt, oneAt, deeper}
-use Rattle.dataset.proofs.laws.reading.Bounded.{ElementHeaderIn, ItemHeaderIn, Bounded}
+use Rattle.dataset.specs.Reading.{Reading, fault, read, _>>=_, One, ended, element, Headers, explicit, byHeader, byOne, byItem, byFragment, fragmentsBy, elementsBy, itemsBy, fragmentsAt, elementsAt, itemsAt, oneAt, deeper}
+use Rattle.dataset.proofs.laws.reading.Bounded.{ElementHeaderIn, ItemHeaderIn, Bounded, explicit-bounded}
 use Rattle.dataset.proofs.laws.reading.Within.{Within, OneIn, itemsOf, oneBy, elements-within, one-by-in, one-in}
 
 then-same : {A B : Type 0} (lo hi : ℕ) (p : Reading A) (k k′ : A × ℕ → Reading B) → Within lo hi p
@@ -135,3 +135,16 @@ module _ (h : Headers) (b : Bounded h) where
   pub fragments-enough : (n : ℕ) (d : List ℕ) (left stop at : ℕ) → at ≤ stop → stop - at < n → fragmentsBy h n d left stop at ≡ fragmentsAt h d left stop at
   unfolding fragmentsAt
   fragments-enough n d left stop at z l = fragments-same n (suc (stop - at)) d left stop at z l (omega arith)
+
+-- ---- in Explicit VR, by what stands at `at`
+pub elements-by : (d : List ℕ) (delimited : Bool) (left stop at least : ℕ) → at ≤ stop → (o : Reading One) → oneAt explicit d delimited left stop at least ≡ o
+    → elementsAt explicit d delimited left stop at least ≡ (o >>= byOne (elementsAt explicit d delimited left stop))
+elements-by d delimited left stop at least h o q = rw (elements-are explicit explicit-bounded d delimited left stop at least h, q)
+
+pub items-by : (d : List ℕ) (delimited : Bool) (left stop at : ℕ) → at ≤ stop → (p : ItemHeader) → itemAt d true delimited stop at ≡ p
+    → itemsAt explicit d delimited left stop at ≡ byItem (λ inner end start. elementsAt explicit d inner (deeper left) end start 0) (itemsAt explicit d delimited left stop) at p
+items-by d delimited left stop at h p q = rw (items-are explicit explicit-bounded d delimited left stop at h, q)
+
+pub fragments-by : (d : List ℕ) (left stop at : ℕ) → at ≤ stop → (p : ItemHeader) → itemAt d false true stop at ≡ p
+    → fragmentsAt explicit d left stop at ≡ byFragment (fragmentsAt explicit d left stop) p
+fragments-by d left stop at h p q = rw (fragments-are explicit explicit-bounded d left stop at h, q)

@@ -19,8 +19,7 @@ use Rattle.dataset.proofs.laws.extent.Outside.{outside-fault}
 use Rattle.dataset.proofs.laws.reading.Outcomes.{IsElement, is-one-fault, is-one-end}
 use Rattle.dataset.specs.declared.reading.OneOutcome.{OneOutcome}
 use Rattle.dataset.specs.declared.reading.OneOutcome.the-variants as one
-use Rattle.dataset.proofs.laws.reading.Bounded.{explicit-bounded}
-use Rattle.dataset.proofs.laws.reading.Unfolding.{elements-are}
+use Rattle.dataset.proofs.laws.reading.Unfolding.{elements-by}
 use Rattle.dataset.proofs.laws.reading.Loops.{answered, one-found, one-past}
 use Rattle.dataset.specs.Extent.{elementsIn, outsideAnswer}
 use Rattle.dataset.specs.Place.{Lies, ElementPlaced, Placed, SoughtIn}
@@ -77,7 +76,7 @@ seen-front tag f e (read es n) k h = rw (h es n, front tag f e es)
 -- what is left at `at` is one element and the rest
 left-is : (d : List ℕ) (x : Extent) (at least : ℕ) → at ≤ x .stop → (o : Reading One) → oneFrom d x at least ≡ o
     → elementsFrom d x at least ≡ (o >>= byOne (elementsFrom d x))
-left-is d x at least h o q = rw (elements-are explicit explicit-bounded d (x .delimited) (x .left) (x .stop) at least h, q)
+left-is d x at least = elements-by d (x .delimited) (x .left) (x .stop) at least
 
 -- ---- the loop's invariant
 

@@ -9,7 +9,7 @@ use native.Mathlib.Omega.{arith}
 use lib.ListN.{length}
 use Rattle.answer.specs.declared.Answer.{Answer}
 use Rattle.answer.specs.Answer.{accepted, refused, _orElse_}
-use Rattle.answer.proofs.laws.Chain.{or-else-first, or-else-second}
+use Rattle.answer.proofs.laws.OrElse.{or-else-first, or-else-second}
 use Rattle.slices.specs.Lists.{between}
 use Rattle.dataset.specs.Tree.{Elements}
 use Rattle.dataset.specs.Reading.{Reading, fault, read, sizeLimit, sizeAnswer, dataSet, answerOf, treeOf}

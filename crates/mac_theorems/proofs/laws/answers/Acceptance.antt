@@ -12,7 +12,7 @@ use borrow.Author.Tests.{eqb-true, ltb-false}
 use Rattle.slices.specs.If.{if_then_else_}
 use Rattle.answer.specs.declared.Answer.{Answer}
 use Rattle.answer.specs.Answer.{accepted, _orElse_}
-use Rattle.answer.proofs.laws.Chain.{or-else-second, BothAccepted, both-accepted}
+use Rattle.answer.proofs.laws.OrElse.{or-else-second, BothAccepted, both-accepted}
 use Rattle.dataset.specs.Tree.{Elements}
 use Rattle.dataset.specs.Reading.{Reading, dataSet, answerOf, treeOf, tree}
 use Rattle.dataset.proofs.laws.reading.Loops.{size-within}

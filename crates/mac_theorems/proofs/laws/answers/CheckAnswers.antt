@@ -11,7 +11,7 @@ use lib.ListN.{length}
 use borrow.Author.Tests.{eq-eqb, le-ltb}
 use Rattle.answer.specs.declared.Answer.{Answer}
 use Rattle.answer.specs.Answer.{accepted, _orElse_}
-use Rattle.answer.proofs.laws.Chain.{or-else-second, or-else-same}
+use Rattle.answer.proofs.laws.OrElse.{or-else-second, or-else-same}
 use Rattle.mac.specs.Modes.{badDigestLength, answerFrom9}
 use Rattle.mac.specs.ListMode as listMode
 use Rattle.mac.specs.SignatureMode as signatureMode

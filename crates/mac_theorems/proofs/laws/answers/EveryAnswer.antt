@@ -15,7 +15,7 @@ use Rattle.answer.specs.declared.Answer.{Answer}
 use Rattle.slices.specs.If.{if_then_else_}
 use Rattle.answer.specs.Answer.{accepted, refused, _orElse_}
 use Rattle.answer.proofs.laws.Refusals.{position-kept, position-none}
-use Rattle.answer.proofs.laws.Chain.{or-else-holds, both-accepted}
+use Rattle.answer.proofs.laws.OrElse.{or-else-holds, both-accepted}
 use Rattle.dataset.specs.Tree.{Element, Elements}
 use Rattle.dataset.specs.Reading.{Reading, fault, read, explicit, elementsAt, sizeLimit, sizeAnswer, levels, dataSet, answerOf, tree}
 use Rattle.dataset.specs.Lookup.{elementOf}

@@ -8,7 +8,7 @@ use mathlib.Core.Option as Opt
 use native.Mathlib.Omega.{arith}
 use Rattle.slices.specs.If.{if_then_else_}
 use Rattle.answer.specs.Answer.{accepted, refused}
-use Rattle.answer.proofs.laws.Chain.{both-accepted}
+use Rattle.answer.proofs.laws.OrElse.{both-accepted}
 use Rattle.dataset.specs.Tree.{Element, Elements}
 use Rattle.dataset.specs.Lookup.{elementOf}
 use Rattle.stream.specs.Content.{SignedElements, signed, joined, content}

@@ -5,7 +5,7 @@ use mathlib.Core.Bool.{true}
 use native.Mathlib.Omega.{arith}
 use lib.ListN.{length}
 use Rattle.answer.specs.Answer.{accepted}
-use Rattle.answer.proofs.laws.Chain.{both-accepted}
+use Rattle.answer.proofs.laws.OrElse.{both-accepted}
 use Rattle.dataset.specs.Reading.{sizeAnswer, dataSet, answerOf, tree}
 use Rattle.stream.specs.TagList.{listAnswer}
 use Rattle.mac.specs.Result.{isAccepted}

@@ -9,7 +9,7 @@ use lib.ListN.{length}
 use Rattle.slices.specs.If.{if_then_else_}
 use Rattle.answer.specs.declared.Answer.{Answer}
 use Rattle.answer.specs.Answer.{accepted, refused, _orElse_}
-use Rattle.answer.proofs.laws.Chain.{or-else-first, or-else-second, or-else-assoc, both-accepted}
+use Rattle.answer.proofs.laws.OrElse.{or-else-first, or-else-second, or-else-assoc, both-accepted}
 use Rattle.dataset.specs.Reading.{answerOf}
 use Rattle.dataset.specs.Place.{Lies}
 use Rattle.dataset.specs.Extent.{elementsIn, outsideAnswer}

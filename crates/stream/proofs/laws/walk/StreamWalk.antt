@@ -11,7 +11,7 @@ use lib.Seq.{sets}
 use borrow.Author.Tests.{eqb-true, eqb-false}
 use Rattle.answer.specs.declared.Answer.{Answer}
 use Rattle.answer.specs.Answer.{accepted, _orElse_}
-use Rattle.answer.proofs.laws.Chain.{or-else-first, or-else-second, both-accepted}
+use Rattle.answer.proofs.laws.OrElse.{or-else-first, or-else-second, both-accepted}
 use Rattle.slices.proofs.laws.Writing.{sets-append}
 use Rattle.dataset.specs.Tree.{Elements}
 use Rattle.dataset.specs.Reading.{Reading, fault, read, answerOf, treeOf}

@@ -15,9 +15,9 @@ use Rattle.dataset.specs.Tree.{Span, span}
 use Rattle.dataset.specs.Reading.{fault, explicit, byFragment, fragmentsAt}
 use Rattle.dataset.specs.declared.header.ItemHeader.{ItemHeader}
 use Rattle.dataset.specs.declared.header.ItemHeader.the-variants as place
-use Rattle.dataset.proofs.laws.header.HeaderFacts.{ItemFacts, item-facts}
-use Rattle.dataset.proofs.laws.reading.Bounded.{explicit-bounded}
-use Rattle.dataset.proofs.laws.reading.Unfolding.{fragments-are}
+use Rattle.dataset.proofs.laws.header.HeaderFacts.{ItemFacts}
+use Rattle.dataset.proofs.laws.reading.Unfolding.{fragments-by}
+use Rattle.dataset.proofs.laws.reading.Loops.{fragment-at}
 use Rattle.stream.specs.Stream.{itemTagBytes, sequenceDelimiterBytes, fragmentsStream}
 use Rattle.stream.specs.Inner.Writer.{walked, holdsNone, Walk}
 use Rattle.stream.specs.declared.writer.Written.the-variants as written
@@ -47,10 +47,10 @@ fragment-front d s = record { streams = λ ss. refl; finds = λ ss. refl }
 module _ (d : List ℕ) (left stop from : ℕ) (xs₀ : List ℕ) (to₀ : ℕ) (xs : List ℕ) (at to : ℕ) (r : ItemHeader) (e : itemCase r ≡ itemAt d false true stop at)
     (i : FragmentsLoop d left stop from xs₀ to₀ xs at to) where
   here : (p : ItemHeader) → r ≡ p → ItemFacts d false true stop at (itemCase p)
-  here p q = rw (sym e ∙ ap itemCase q) at (item-facts d false true stop at)
+  here p q = fragment-at d stop at r e p q
 
   fragments-at : (p : ItemHeader) → r ≡ p → fragmentsAt explicit d left stop at ≡ byFragment (fragmentsAt explicit d left stop) (itemCase p)
-  fragments-at p q = rw (fragments-are explicit explicit-bounded d left stop at (i .inside), sym e ∙ ap itemCase q)
+  fragments-at p q = fragments-by d left stop at (i .inside) (itemCase p) (sym e ∙ ap itemCase q)
 
   pub fragments-refused : (number position : ℕ) (f : Answer) (ys : List ℕ) → r ≡ place.Refused number position → f ≡ faultAt number position
       → Walk (walked holdsNone fragmentsStream) fragmentsStream (fragmentsAt explicit d left stop from) d to₀ (written.Refused f) xs₀ ys

@@ -12,10 +12,10 @@ use Rattle.dataset.specs.Tree.{Elements, last, item}
 use Rattle.dataset.specs.Reading.{Reading, fault, read, _>>=_, explicit, byItem, elementsAt, itemsAt, deeper}
 use Rattle.dataset.specs.declared.header.ItemHeader.{ItemHeader}
 use Rattle.dataset.specs.declared.header.ItemHeader.the-variants as place
-use Rattle.dataset.proofs.laws.header.HeaderFacts.{ItemFacts, item-facts}
-use Rattle.dataset.proofs.laws.reading.Bounded.{explicit-bounded}
+use Rattle.dataset.proofs.laws.header.HeaderFacts.{ItemFacts}
 use Rattle.dataset.proofs.laws.reading.Levels.{deeper-falls}
-use Rattle.dataset.proofs.laws.reading.Unfolding.{items-are}
+use Rattle.dataset.proofs.laws.reading.Unfolding.{items-by}
+use Rattle.dataset.proofs.laws.reading.Loops.{item-at}
 use Rattle.dataset.proofs.laws.reading.Guarantees.{holds-read, ElementsIn, elements-read}
 use Rattle.stream.specs.Stream.{itemTagBytes, sequenceDelimiterBytes, elementsStream, itemsStream}
 use Rattle.stream.specs.UN.{elementsHoldUN, itemsHoldUN}
@@ -67,11 +67,11 @@ elements-fall left l t h e q = let k = deeper-falls left h in omega (arith, k, e
 module _ (d : List ℕ) (delimited : Bool) (left stop from : ℕ) (xs₀ : List ℕ) (to₀ : ℕ) (xs : List ℕ) (at : ℕ) (found : Bool) (to : ℕ)
     (r : ItemHeader) (e : itemCase r ≡ itemAt d true delimited stop at) (i : ItemsLoop d delimited left stop from xs₀ to₀ xs at found to) where
   here : (p : ItemHeader) → r ≡ p → ItemFacts d true delimited stop at (itemCase p)
-  here p q = rw (sym e ∙ ap itemCase q) at (item-facts d true delimited stop at)
+  here p q = item-at d delimited stop at r e p q
 
   items-at : (p : ItemHeader) → r ≡ p → itemsAt explicit d delimited left stop at
       ≡ byItem (λ inner end start. elementsAt explicit d inner (deeper left) end start 0) (itemsAt explicit d delimited left stop) at (itemCase p)
-  items-at p q = rw (items-are explicit explicit-bounded d delimited left stop at (i .inside), sym e ∙ ap itemCase q)
+  items-at p q = items-by d delimited left stop at (i .inside) (itemCase p) (sym e ∙ ap itemCase q)
 
   pub items-refused : (number position : ℕ) (f : Answer) (ys : List ℕ) → r ≡ place.Refused number position → f ≡ faultAt number position
       → Walk (walked itemsHoldUN itemsStream) itemsStream (itemsAt explicit d delimited left stop from) d to₀ (written.Refused f) xs₀ ys

@@ -10,8 +10,7 @@ use Rattle.answer.specs.declared.Answer.{Answer}
 use Rattle.slices.specs.If.{if_then_else_}
 use Rattle.dataset.specs.Tree.{Element, Elements, and, tagOf}
 use Rattle.dataset.specs.Reading.{Reading, fault, read, _>>=_, One, ended, element, explicit, byOne, elementsAt, oneAt}
-use Rattle.dataset.proofs.laws.reading.Bounded.{explicit-bounded}
-use Rattle.dataset.proofs.laws.reading.Unfolding.{elements-are}
+use Rattle.dataset.proofs.laws.reading.Unfolding.{elements-by}
 use Rattle.dataset.proofs.laws.reading.Guarantees.{holds-read, OneIs, ElementIn, one-read}
 use Rattle.stream.specs.Stream.{streamOf}
 use Rattle.stream.specs.UN.{isUN, holdsUN}
@@ -65,19 +64,15 @@ by-element elements e next tag t = rw t
 -- r is what the walk answers in an element's place, and ys what it leaves
 module _ (kept : ℕ → Bool) (d : List ℕ) (delimited : Bool) (left stop at least to : ℕ) (r : OneWritten) (xs ys : List ℕ) (h : at ≤ stop)
     (w : Walk (oneWalked kept) (oneStream kept) (oneAt explicit d delimited left stop at least) d to r xs ys) where
-  elements-by : (o : Reading One) → oneAt explicit d delimited left stop at least ≡ o
-      → elementsAt explicit d delimited left stop at least ≡ (o >>= byOne (elementsAt explicit d delimited left stop))
-  elements-by o q = rw (elements-are explicit explicit-bounded d delimited left stop at least h, q)
-
   pub one-fault : (f : Answer) → r ≡ one.Refused f → elementsAt explicit d delimited left stop at least ≡ fault f
-  one-fault f q = elements-by (fault f) (is-fault kept (oneAt explicit d delimited left stop at least) d to f (sym (w .answers) ∙ q))
+  one-fault f q = elements-by d delimited left stop at least h (fault f) (is-fault kept (oneAt explicit d delimited left stop at least) d to f (sym (w .answers) ∙ q))
 
   module _ (next : ℕ) (q : r ≡ one.End next) where
     ended-here : oneAt explicit d delimited left stop at least ≡ read ended next
     ended-here = is-end kept (oneAt explicit d delimited left stop at least) d to next (sym (w .answers) ∙ q)
 
     pub one-end : elementsAt explicit d delimited left stop at least ≡ (read ended next >>= byOne (elementsAt explicit d delimited left stop))
-    one-end = elements-by (read ended next) ended-here
+    one-end = elements-by d delimited left stop at least h (read ended next) ended-here
 
     pub end-output : ys ≡ xs
     unfolding Leaves oneStream
@@ -90,7 +85,7 @@ module _ (kept : ℕ → Bool) (d : List ℕ) (delimited : Bool) (left stop at l
     pub one-next : elementsAt explicit d delimited left stop at least
         ≡ (elementsAt explicit d delimited left stop next (tag + 1) >>= λ x. read (and (one-found .what) (x .0)) (x .1))
     one-next =
-        elements-by (read (element (one-found .what)) next) (one-found .is)
+        elements-by d delimited left stop at least h (read (element (one-found .what)) next) (one-found .is)
         ∙ by-element (elementsAt explicit d delimited left stop) (one-found .what) next tag (one-found .tagged)
 
     pub one-output : ys ≡ sets xs to (oneStream kept (element (one-found .what)) d)

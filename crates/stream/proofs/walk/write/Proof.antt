@@ -1,6 +1,6 @@
--- `write` meets its contract: each place by its law in Writing. Assumes nothing.
+-- `write` meets its contract: each place by its law in WriteMeasured. Assumes nothing.
 use Rattle.stream.proofs.laws.walk.Measuring as measured
-use Rattle.stream.proofs.laws.walk.Writing as steps
+use Rattle.stream.proofs.laws.walk.WriteMeasured as steps
 use borrow.Author.Needs.{needs}
 use Rattle.stream.proofs.walk.write.Statement.{statement}
 use Rattle.stream.proofs.walk.write.Tie as tie

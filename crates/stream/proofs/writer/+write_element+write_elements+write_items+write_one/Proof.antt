@@ -1,7 +1,7 @@
 -- The cycle of calls. Levels fall: 4 left + 3 for the walk over elements, 4 left + 2 and 4 left + 1 for that over one element, 4 left for that
--- over items. Each place is a law of OneElement, ElementsLoop, BarredLoop or ItemsLoop, which `search` applies to the facts there. Assumes
+-- over items. Each place is a law of WriteElement, ElementsLoop, BarredLoop or ItemsLoop, which `search` applies to the facts there. Assumes
 -- nothing.
-use Rattle.stream.proofs.laws.writer.OneElement as element
+use Rattle.stream.proofs.laws.writer.WriteElement as element
 use Rattle.stream.proofs.laws.writer.ElementsLoop as loop
 use Rattle.stream.proofs.laws.writer.BarredLoop as elements
 use Rattle.stream.proofs.laws.writer.ItemsLoop as items

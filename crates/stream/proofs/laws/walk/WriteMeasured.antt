@@ -11,7 +11,7 @@ use borrow.Author.Tests.{lt-ltb, le-ltb, ltb-false, eq-eqb, ne-eqb}
 use Rattle.slices.specs.If.{if_then_else_}
 use Rattle.answer.specs.declared.Answer.{Answer}
 use Rattle.answer.specs.Answer.{accepted, refused, _orElse_}
-use Rattle.answer.proofs.laws.Chain.{or-else-first, or-else-second, or-else-refuses, both-accepted, passed}
+use Rattle.answer.proofs.laws.OrElse.{or-else-first, or-else-second, or-else-refuses, both-accepted, passed}
 use Rattle.dataset.specs.declared.extent.Extent.{Extent}
 use Rattle.stream.specs.Walk.{streamIn, answerTo15, measure, answerFrom16, answer, leftIn, WrittenAs}
 use Rattle.stream.specs.Inner.Walk.{StreamWalk}
