@@ -8,7 +8,7 @@ use lib.ListN.{length}
 use Rattle.answer.specs.declared.Answer.{Answer}
 use Rattle.dataset.specs.Header.{ItemHeader, faultAt, itemAt}
 use Rattle.dataset.specs.Tree.{Elements, Items}
-use Rattle.dataset.specs.Reading.{Reading, fault, read, _>>=_, explicit, byItem, elementsAt, itemsAt, deeper}
+use Rattle.dataset.specs.Reading.{Reading, fault, read, _>>=_, explicit, byItem, itemsAt, deeper}
 use Rattle.dataset.specs.Extent.{OpenedItem, elementsIn, openedBy, openedItem, openedCase}
 use Rattle.dataset.specs.Place.{Lies}
 use Rattle.dataset.specs.Inner.Outcomes.{outcomeOf}

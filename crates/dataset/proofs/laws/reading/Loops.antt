@@ -13,7 +13,7 @@ use Rattle.answer.specs.Answer as answer
 use Rattle.slices.specs.If.{if_then_else_}
 use Rattle.dataset.specs.Header.{faultAt, itemCase, itemAt}
 use Rattle.dataset.specs.Tree.{Element}
-use Rattle.dataset.specs.Reading.{Reading, fault, read, _>>=_, One, ended, element, explicit, byOne, byItem, byFragment, fragmentsAt, elementsAt, itemsAt, oneAt, sizeLimit, sizeAnswer, unlessRefused, levels, deeper, dataSet, answerOf, handedOn, oneCase}
+use Rattle.dataset.specs.Reading.{fault, read, ended, element, explicit, byOne, byItem, byFragment, fragmentsAt, elementsAt, itemsAt, oneAt, sizeLimit, sizeAnswer, unlessRefused, levels, deeper, dataSet, answerOf, handedOn, oneCase}
 use Rattle.dataset.specs.Inner.Outcomes.{outcomeOf, oneOutcomeOf}
 use Rattle.dataset.specs.declared.header.ItemHeader.{ItemHeader}
 use Rattle.dataset.specs.declared.header.ItemHeader.the-variants as place

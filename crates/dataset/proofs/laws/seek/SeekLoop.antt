@@ -8,12 +8,12 @@ use mathlib.Core.Option.{Option, some}
 use mathlib.Core.Option as Opt
 use native.Mathlib.Omega.{arith}
 use lib.Dec.{eqb}
-use lib.ListN.{length}
+
 use borrow.Author.Tests.{eq-eqb, ne-eqb}
 use Rattle.answer.specs.declared.Answer.{Answer}
 use Rattle.slices.specs.If.{if_then_else_}
 use Rattle.dataset.specs.Tree.{Element, Elements, tagOf}
-use Rattle.dataset.specs.Reading.{Reading, fault, read, _>>=_, One, ended, element, explicit, byOne, handedOn, oneCase}
+use Rattle.dataset.specs.Reading.{Reading, fault, read, _>>=_, One, ended, element, byOne, handedOn, oneCase}
 use Rattle.dataset.specs.Lookup.{elementOf}
 use Rattle.dataset.proofs.laws.extent.Outside.{outside-fault}
 use Rattle.dataset.proofs.laws.reading.Outcomes.{IsElement, is-one-fault, is-one-end}

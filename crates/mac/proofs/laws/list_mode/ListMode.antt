@@ -7,7 +7,7 @@ use mathlib.Core.Option as Opt
 use native.Mathlib.Omega.{arith}
 use lib.ListN.{length}
 use Rattle.answer.specs.declared.Answer.{Answer}
-use Rattle.answer.specs.Answer.{accepted, _orElse_}
+use Rattle.answer.specs.Answer.{_orElse_}
 use Rattle.answer.proofs.laws.OrElse.{or-else-first, or-else-second}
 use Rattle.dataset.specs.Tree.{Elements}
 use Rattle.dataset.specs.Reading.{Reading, sizeLimit, sizeAnswer, dataSet, answerOf, treeOf}
