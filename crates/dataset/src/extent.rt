@@ -36,7 +36,7 @@ pub fn whole(size: usize) -> Extent
     }
 }
 
-// 2, where an extent does not lie inside the data. Whoever reads in an extent that a caller gives asks this first.
+// 2, where an extent does not lie inside the data. Whoever walks over a data set in an extent that a caller gives asks this first.
 pub fn outside_answer(d: &[u8], x: Extent) -> Answer
     ensures { λ r. ⌜ r ≡ outsideAnswer (now (d .entry)) x ⌝ }
 {

@@ -30,26 +30,34 @@ fn state(count: usize, after: u8, total: u64) -> Running {
     }
 }
 
-// Whether two running digests are the same in each field.
-fn same(a: Running, b: Running) -> bool {
-    let u = a.words;
-    let v = b.words;
-    let x = a.waiting;
-    let y = b.waiting;
+// Whether two lists of words are the same.
+fn same_words(u: [u32; 8], v: [u32; 8]) -> bool {
     let mut i: usize = 0;
-    while i < 64 {
-        if x[i] != y[i] {
-            return false;
-        }
-        if u[i / 8] != v[i / 8] {
+    while i < 8 {
+        if u[i] != v[i] {
             return false;
         }
         i += 1;
     }
+    true
+}
+
+// Whether two running digests are the same in each field.
+fn same(a: Running, b: Running) -> bool {
+    let x = a.waiting;
+    let y = b.waiting;
+    if !slices::same(&x, &y) {
+        return false;
+    }
     if a.count != b.count {
         return false;
     }
-    a.total == b.total
+    if a.total != b.total {
+        return false;
+    }
+    let u = a.words;
+    let v = b.words;
+    same_words(u, v)
 }
 
 fn print_kept(a: Running, b: Running) {

@@ -17,7 +17,7 @@ ghost use Rattle.mac.specs.SignatureMode.{measure, streamCall, checkCall
 ghost use Rattle.mac.specs.Inner.Calls.{SignatureSelected, signatureCall, CallAnswered};
 
 // What is selected in a whole data set; or 1 to 8, 18 to 23.
-fn select_in(uid: &[u8], which: Signature, d: &[u8]) -> Selection
+fn select_whole(uid: &[u8], which: Signature, d: &[u8]) -> Selection
     ensures { λ r. ⌜ SignatureSelected (now (uid .entry)) which (now (d .entry)) r ⌝ }
 {
     let size = reading::size_answer(d);
@@ -32,7 +32,7 @@ fn select_in(uid: &[u8], which: Signature, d: &[u8]) -> Selection
 pub fn signature_measure(uid: &[u8], which: Signature, d: &[u8]) -> Answer
     ensures { λ r. ⌜ r ≡ measure (now (uid .entry)) which (now (d .entry)) ⌝ }
 {
-    match select_in(uid, which, d) {
+    match select_whole(uid, which, d) {
         Selection::Refused(answer) => answer,
         Selection::Selected(selected) => {
             let start = selected.start;
@@ -55,7 +55,7 @@ fn signature_call(
 ) -> Answer
     ensures { λ r. ⌜ CallAnswered (signatureCall (now (uid .entry)) which (now (d .entry)) (now (out .entry))) expected limit (now (out .entry)) r (now (out .exit)) ⌝ }
 {
-    match select_in(uid, which, d) {
+    match select_whole(uid, which, d) {
         Selection::Refused(answer) => answer,
         Selection::Selected(selected) => {
             let start = selected.start;

@@ -44,34 +44,34 @@ fn lookup_of(field: &[u8]) -> Asked {
 }
 
 fn mode_of(kind: &[u8]) -> Asked {
-    if check::same(kind, b"list") {
+    if slices::same(kind, b"list") {
         return Asked::Mode {
             signature: false,
             check: false,
         };
     }
-    if check::same(kind, b"list-check") {
+    if slices::same(kind, b"list-check") {
         return Asked::Mode {
             signature: false,
             check: true,
         };
     }
-    if check::same(kind, b"signature") {
+    if slices::same(kind, b"signature") {
         return Asked::Mode {
             signature: true,
             check: false,
         };
     }
-    if check::same(kind, b"signature-check") {
+    if slices::same(kind, b"signature-check") {
         return Asked::Mode {
             signature: true,
             check: true,
         };
     }
-    if check::same(kind, b"list-measure") {
+    if slices::same(kind, b"list-measure") {
         return Asked::Measuring { signature: false };
     }
-    if check::same(kind, b"signature-measure") {
+    if slices::same(kind, b"signature-measure") {
         return Asked::Measuring { signature: true };
     }
     Asked::Nothing
@@ -79,16 +79,16 @@ fn mode_of(kind: &[u8]) -> Asked {
 
 // What a kind asks for, with the fields behind it.
 fn asked_of(kind: &[u8], args: &[u8]) -> Asked {
-    if check::same(kind, b"read") {
+    if slices::same(kind, b"read") {
         return Asked::Reading;
     }
-    if check::same(kind, b"one") {
+    if slices::same(kind, b"one") {
         return one_of(fields::field(args));
     }
-    if check::same(kind, b"lookup") {
+    if slices::same(kind, b"lookup") {
         return lookup_of(fields::field(args));
     }
-    if check::same(kind, b"frame") {
+    if slices::same(kind, b"frame") {
         return Asked::Program;
     }
     mode_of(kind)

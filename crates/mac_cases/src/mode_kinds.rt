@@ -30,7 +30,7 @@ fn which_of(signature: bool, args: &[u8]) -> Which {
         return Which::Good(Signature::Unnamed);
     }
     let field = fields::field(args);
-    if check::same(field, b"none") {
+    if slices::same(field, b"none") {
         return Which::Good(Signature::Unnamed);
     }
     match fields::number_of(field) {

@@ -87,7 +87,7 @@ answerByWith17 (selected list algorithm es item) d room expected =
     listAnswer list
     orElse answerFrom13With17 (tagsIn list) es (signatureWritesUN list item es d) (streamBy (selected list algorithm es item) d) room expected
 
--- the whole order of signature mode (9.5), with 17 behind 16
+-- the whole order of signature mode (9.5), with 17 behind 16; 1, which stands in `dataSet` too, is written out
 unfoldable pub signatureModeWith17 : signatureMode.Call → Answer
 signatureModeWith17 c =
     sizeAnswer (c .set)

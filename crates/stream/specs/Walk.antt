@@ -1,5 +1,5 @@
 -- What is signed by where it lies: the listed elements of the data set in an extent and, in signature mode, the signature item's own. Its
--- stream, the numbers from 10 to 15 and 16 (RULES, 9.4, 9.5), and what is left in the output. `SignatureItem` is the enum of src/walk.rt.
+-- stream, the numbers 10 to 16 (RULES, 9.4, 9.5), and what is left in the output. `SignatureItem` is the enum of src/walk.rt.
 -- Assumes nothing.
 use Prim.Native.Nat.{ℕ, _+_, _≤_}
 use mathlib.Core.Path.{_≡_}
@@ -29,20 +29,20 @@ itemReading d (signatureItem.Item x) = elementsIn d x
 unfoldable pub signedStream : (tags : List ℕ) (es item : Elements) (d : List ℕ) → List ℕ
 signedStream tags es item d = listedStream tags es d ++ elementsStream (own item) d
 
--- the stream of a list in the data set in x
+-- the stream of a list in the data set in x, and of the signature item
 unfoldable pub streamIn : (list d : List ℕ) → Extent → SignatureItem → List ℕ
 streamIn list d x item = signedStream (tagsIn list) (treeOf (elementsIn d x)) (treeOf (itemReading d item)) d
 
--- "10; 11; 12", the fault of the data set in x, "then for each tag in turn 13, 14, 15" (9.4, 9.5); and the fault of the signature item, which
--- no call of either mode has: the data set that it stands in was read before (docs/DECISIONS.md, L17)
-unfoldable pub answerTo15 : (list d : List ℕ) → Extent → SignatureItem → Answer
-answerTo15 list d x item =
-    listAnswer list
-    orElse answerOf (elementsIn d x)
-    orElse tagsAnswer 0 (tagsIn list) (treeOf (elementsIn d x))
-    orElse answerOf (itemReading d item)
+-- by the readings of the data set and of the signature item: "2 to 8; then for each tag in turn 13, 14, 15" (9.4), and the item's fault
+unfoldable pub readAnswer : (tags : List ℕ) (set item : Reading Elements) → Answer
+readAnswer tags set item = answerOf set orElse tagsAnswer 0 tags (treeOf set) orElse answerOf item
 
--- what measuring answers: that, or else the stream's length
+-- "10; 11 over the whole list; 12 over the whole list; 2 to 8; then for each tag in turn 13, 14, 15" (9.4). In signature mode (9.5) both data
+-- sets were read before 18 to 23, so that neither's fault comes here (docs/DECISIONS.md, L17).
+unfoldable pub answerTo15 : (list d : List ℕ) → Extent → SignatureItem → Answer
+answerTo15 list d x item = listAnswer list orElse readAnswer (tagsIn list) (elementsIn d x) (itemReading d item)
+
+-- what measuring answers: that, or else the stream's length (7.9)
 unfoldable pub measure : (list d : List ℕ) → Extent → SignatureItem → Answer
 measure list d x item = answerTo15 list d x item orElse accepted (length (streamIn list d x item))
 
@@ -50,7 +50,7 @@ measure list d x item = answerTo15 list d x item orElse accepted (length (stream
 unfoldable pub answerFrom16 : (stream : List ℕ) (room : ℕ) → Answer
 answerFrom16 stream room = (if ltb room (length stream) then refused 16 0 else accepted 0) orElse accepted (length stream)
 
--- what writing answers, in the output room `room`; `later` is what the caller refuses behind 15 and before 16 (9)
+-- what writing answers, in the output room `room`; `later` is what the caller refuses behind 15 and before 16: number 9, or none
 unfoldable pub answer : (list d : List ℕ) → Extent → SignatureItem → (later : Answer) (room : ℕ) → Answer
 answer list d x item later room = answerTo15 list d x item orElse later orElse answerFrom16 (streamIn list d x item) room
 
@@ -60,7 +60,8 @@ answer list d x item later room = answerTo15 list d x item orElse later orElse a
 unfoldable pub leftIn : (a : Answer) (stream out : List ℕ) → List ℕ
 leftIn a stream out = if eqb (a .number) 0 then stream ++ drop (length stream) out else out
 
--- ---- what `write` promises: its answer r, and what it leaves; an accepted one has at most twice as many bytes as the data
+-- ---- what `write` promises: its answer r, and what it leaves. List and item may lie anywhere, so that the bound is twice the data; that no
+-- stream is longer than its data set (5.6) is said of the modes.
 pub record WrittenAs (list d : List ℕ) (x : Extent) (item : SignatureItem) (later : Answer) (out : List ℕ) (r : Answer) (after : List ℕ) : Type 0 where
   pub answers : r ≡ answer list d x item later (length out)
   pub output : after ≡ leftIn r (streamIn list d x item) out

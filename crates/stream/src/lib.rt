@@ -1,4 +1,4 @@
-// The stream of DICOM C.12.1.1.3, by where it is signed: a list of tags, the extent of a data set, and perhaps a signature item.
+// The stream of DICOM C.12.1.1.3, by where what is signed lies: a list of tags, the extent of a data set, and perhaps a signature item.
 //
 // walk       measuring, which is the list and a first walk; then 16 and the walk that writes
 // tag_list   10, 11, 12

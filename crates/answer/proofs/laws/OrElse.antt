@@ -19,6 +19,9 @@ pub or-else-first : (a b : Answer) → (a .number ≡ 0 → ⊥) → (a orElse b
 unfolding _orElse_ if_then_else_
 or-else-first a b h = rw (ne-eqb (a .number) 0 h)
 
+pub refused-first : (a first b : Answer) → a ≡ first → (a .number ≡ 0 → ⊥) → a ≡ (first orElse b)
+refused-first a first b e h = e ∙ sym (or-else-first first b (λ z. h (ap (λ (x : Answer). x .number) e ∙ z)))
+
 -- the seconds need be the same only where the first is accepted
 pub or-else-same : (a b c : Answer) → (a .number ≡ 0 → b ≡ c) → (a orElse b) ≡ (a orElse c)
 unfolding _orElse_ if_then_else_

@@ -1,7 +1,7 @@
 -- What a call in either mode answers and leaves, by what the walk over what is signed answers. Assumes nothing.
 use Prim.Native.Nat.{ℕ, _+_, _≤_}
 use mathlib.Core.Path.{_≡_, refl, sym, ap, _∙_}
-use mathlib.Core.List.{List, [], _∷_}
+use mathlib.Core.List.{List}
 use mathlib.Core.Option.{Option, some}
 use mathlib.Core.Option as Opt
 use native.Mathlib.Omega.{arith}
@@ -10,11 +10,8 @@ use borrow.Author.Tests.{ne-eqb}
 use Rattle.slices.specs.If.{if_then_else_}
 use Rattle.answer.specs.declared.Answer.{Answer}
 use Rattle.answer.specs.Answer.{accepted, refused, _orElse_}
-use Rattle.answer.proofs.laws.OrElse.{or-else-first, or-else-second, or-else-itself, both-accepted}
-use Rattle.dataset.specs.Tree.{Elements}
-use Rattle.dataset.specs.Lookup.{elementOf}
+use Rattle.answer.proofs.laws.OrElse.{refused-first}
 use Rattle.dataset.specs.declared.extent.Extent.{Extent}
-use Rattle.stream.specs.Listed.{elementAnswer, tagsAnswer}
 use Rattle.stream.specs.Walk.{answerFrom16, leftIn, WrittenAs}
 use Rattle.stream.specs.Walk as walk
 use Rattle.stream.specs.declared.walk.SignatureItem.{SignatureItem}
@@ -24,17 +21,6 @@ use Rattle.mac.specs.Result.{Result, outputAfter}
 use Rattle.mac.specs.Inner.Verdict.{lengthOf, lengthAnswer}
 use Rattle.mac.specs.Inner.Calls.{CallAnswered}
 use Rattle.mac.specs.declared.verdict.ExpectedLength.{ExpectedLength}
-
--- ---- 13 to 15, and nothing behind them
-tags-accepted : (index : ℕ) (tags : List ℕ) (es : Elements) → tagsAnswer index tags es .number ≡ 0 → tagsAnswer index tags es ≡ accepted 0
-unfolding tagsAnswer
-tags-accepted index [] es h = refl
-tags-accepted index (tag ∷ tags) es h =
-    let k = both-accepted (elementAnswer index (elementOf tag es)) (tagsAnswer (index + 1) tags es) h in
-    or-else-second (elementAnswer index (elementOf tag es)) _ (k .first) ∙ tags-accepted (index + 1) tags es (k .second)
-
-pub tags-end : (index : ℕ) (tags : List ℕ) (es : Elements) → (tagsAnswer index tags es orElse accepted 0) ≡ tagsAnswer index tags es
-tags-end index tags es = or-else-itself (tagsAnswer index tags es) (accepted 0) (tags-accepted index tags es)
 
 -- ---- 9
 nine : (expected : Option (List ℕ)) → (if badDigestLength expected then refused 9 0 else accepted 0) ≡ lengthAnswer (lengthOf expected)
@@ -48,15 +34,11 @@ callOf first stream room expected = record { answer = first orElse answerFrom9 s
 
 module _ (first : Answer) (stream : List ℕ) where
   -- a refusal up to 15
-  pub measured-refused : (a : Answer) → a ≡ first → (a .number ≡ 0 → ⊥) → a ≡ (first orElse accepted (length stream))
-  measured-refused a e h = e ∙ sym (or-else-first first _ (λ z. h (ap (λ (x : Answer). x .number) e ∙ z)))
-
   pub call-refused : (given : ExpectedLength) (most : ℕ) (out : List ℕ) (a : Answer) → a ≡ first → (a .number ≡ 0 → ⊥)
       → CallAnswered (callOf first stream (length out)) given most out a out
   unfolding outputAfter leftIn if_then_else_
   call-refused given most out a e h =
-      let q : (expected : Option (List ℕ)) → a ≡ (first orElse answerFrom9 stream (length out) expected) =
-      λ expected. e ∙ sym (or-else-first first _ (λ z. h (ap (λ (x : Answer). x .number) e ∙ z))) in
+      let q : (expected : Option (List ℕ)) → a ≡ (first orElse answerFrom9 stream (length out) expected) = λ expected. refused-first a first _ e h in
       record {
         streamed = λ expected g. record { answers = q expected; output = rw (← q expected, ne-eqb (a .number) 0 h) };
         long = λ expected z. absurd (h z);

@@ -1,7 +1,7 @@
 -- Places: the values and the items that stand in them, and what `seek` and `find_item_under` say of them. Assumes nothing.
 use borrow.Author.Tests.{eq-eqb, ne-eqb}
 use Prim.Native.Nat.{ℕ, _≤_, _<_, _-_}
-use mathlib.Core.Path.{_≡_, refl}
+use mathlib.Core.Path.{_≡_, refl, ap}
 use mathlib.Core.Logic.{⊎-elim}
 use mathlib.Core.List.{List, [], _∷_}
 use mathlib.Core.Option.{Option, some}
@@ -14,7 +14,7 @@ use denote.Enum.Declared.{tagOf}
 use Rattle.slices.specs.If.{if_then_else_}
 use Rattle.slices.specs.Lists.{between}
 use Rattle.dataset.specs.Tree.{Element, Elements}
-use Rattle.dataset.specs.Reading.{Reading, fault, read}
+use Rattle.dataset.specs.Reading.{Reading, fault, read, answerOf}
 use Rattle.dataset.specs.Lookup.{elementOf}
 use Rattle.selection.specs.Selection.{itemsOf, valueOf, itemWhere}
 use Rattle.dataset.specs.Extent.{elementsIn, itemsIn}
@@ -29,7 +29,8 @@ use Rattle.dataset.specs.declared.seek.Sought.the-variants as sought
 use Rattle.selection.specs.declared.items.ItemKey.{ItemKey}
 use Rattle.selection.specs.declared.items.FoundItem.{FoundItem}
 use Rattle.selection.specs.declared.items.FoundItem.the-variants as found
-use Rattle.dataset.proofs.laws.seek.Places.{placed-lies, sought-past, read-lies}
+use Rattle.dataset.proofs.laws.extent.Outside.{read-lies}
+use Rattle.dataset.proofs.laws.seek.Places.{placed-lies, sought-past}
 use Rattle.dataset.proofs.seek.Place as enum
 
 -- cases that cannot be
@@ -108,7 +109,7 @@ module _ (d : List ℕ) (tag tag′ : ℕ) (x : Extent) (r : Sought) (s : Sought
   )
 
   pub sought-lies : Lies d x
-  sought-lies = let k = sought-past d tag tag′ (elementsIn d x) r first second next s is in read-lies d x (k .what) next (k .is)
+  sought-lies = let k = sought-past d tag tag′ (elementsIn d x) r first second next s is in read-lies d x (ap (λ (p : Reading Elements). answerOf p .number) (k .is))
 
   pub first-stands : Located d first
   first-stands = both (elementsIn d x) s .0

@@ -1,4 +1,5 @@
 pub mod Finding
+pub mod ListedAnswers
 pub mod Merge
 pub mod MergeArms
 pub mod WalkListLoop

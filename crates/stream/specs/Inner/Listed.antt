@@ -14,7 +14,6 @@ use Rattle.dataset.specs.Tree.{Elements}
 use Rattle.dataset.specs.Reading.{Reading, fault, read}
 use Rattle.stream.specs.TagList.{tagsIn}
 use Rattle.stream.specs.Stream.{listedStream}
-use Rattle.stream.specs.UN.{isUN}
 use Rattle.stream.specs.Listed.{tagsAnswer}
 use Rattle.dataset.specs.Extent.{elementsIn}
 use Rattle.dataset.specs.declared.extent.Extent.{Extent}

@@ -12,16 +12,13 @@ use Rattle.dataset.specs.Reading.{Reading, answerOf, treeOf}
 use Rattle.dataset.specs.Extent.{elementsIn}
 use Rattle.dataset.specs.declared.extent.Extent.{Extent}
 use Rattle.stream.specs.TagList.{tagsIn}
-use Rattle.stream.specs.Listed.{tagsAnswer}
-use Rattle.stream.specs.Walk.{itemReading, signedStream, streamIn}
+use Rattle.stream.specs.Walk.{itemReading, signedStream, streamIn, readAnswer}
 use Rattle.stream.specs.Inner.Own.{ownStream}
 use Rattle.stream.specs.declared.walk.SignatureItem.{SignatureItem}
 
--- by the readings of the data set and of the signature item: the fault of the first, 13 to 15, the fault of the second; or else the length of
--- the stream
+-- by the readings of the data set and of the signature item; or else the length of the stream
 unfoldable pub walkAnswer : (tags d : List ℕ) → (p item : Reading Elements) → Answer
-walkAnswer tags d p item =
-    (answerOf p orElse tagsAnswer 0 tags (treeOf p) orElse answerOf item) orElse accepted (length (signedStream tags (treeOf p) (treeOf item) d))
+walkAnswer tags d p item = readAnswer tags p item orElse accepted (length (signedStream tags (treeOf p) (treeOf item) d))
 
 -- what follows the listed elements, from `to` on: the own elements of the signature item in x
 pub record FollowingWalk (d : List ℕ) (x : Extent) (to : ℕ) (r : Answer) (before after : List ℕ) : Type 0 where

@@ -11,16 +11,15 @@ use lib.ListN.{length}
 use Rattle.slices.specs.If.{if_then_else_}
 use Rattle.answer.specs.declared.Answer.{Answer}
 use Rattle.dataset.specs.Vr.{OB, SQ}
-use Rattle.dataset.specs.Header.{ElementHeader, outside, elementAt}
+use Rattle.dataset.specs.Header.{ElementHeader, elementAt}
 use Rattle.dataset.specs.Tree.{Span, span, Element, Elements, Items, vrOf, spanOf}
 use Rattle.dataset.specs.Reading.{Reading, fault, read, _>>=_, One, element, explicit, byHeader, elementsAt, itemsAt, fragmentsAt, oneAt}
 use Rattle.dataset.specs.Lookup.{elementOf}
-use Rattle.dataset.proofs.laws.header.HeaderFacts.{ElementFacts, element-facts, inside-of}
-use Rattle.dataset.proofs.laws.reading.Outcomes.{items-next, fragments-next, outside-refused}
+use Rattle.dataset.proofs.laws.header.HeaderFacts.{ElementFacts, element-facts}
+use Rattle.dataset.proofs.laws.reading.Outcomes.{items-next, fragments-next}
 use Rattle.dataset.proofs.laws.reading.Guarantees.{items-filled}
 use Rattle.dataset.specs.Order.{HeaderExtent}
-use Rattle.dataset.specs.Extent.{elementsIn}
-use Rattle.dataset.specs.Place.{Lies, ItemsAre, ElementPlaced, Placed, SoughtIn}
+use Rattle.dataset.specs.Place.{ItemsAre, ElementPlaced, Placed, SoughtIn}
 use Rattle.dataset.specs.Inner.Outcomes.{outcomeOf}
 use Rattle.dataset.specs.Inner.Place.{isThere, placeBy, PlaceLies}
 use Rattle.dataset.specs.declared.extent.Extent.{Extent}
@@ -152,13 +151,3 @@ sought-past d tag tag′ (read es n) s p q next h e =
 pub sought-refused : (d : List ℕ) (tag tag′ : ℕ) (o : Reading Elements) (s : Sought) (f : Answer) → SoughtIn d tag tag′ o s → s ≡ sought.Refused f → o ≡ fault f
 sought-refused d tag tag′ (fault g) s f h e = let q : g ≡ f = cc in ap fault q
 sought-refused d tag tag′ (read es n) s f h e = let u = h .is in absurd (true≢false (cc))
-
--- ---- what is read lies in the data
-pub read-lies : (d : List ℕ) (x : Extent) (es : Elements) (n : ℕ) → elementsIn d x ≡ read es n → Lies d x
-read-lies d x es n e = go (outside d (x .stop) (x .from)) refl
-  where
-    go : (b : Bool) → outside d (x .stop) (x .from) ≡ b → Lies d x
-    go true q =
-        let z = outside-refused d (x .delimited) (x .left) (x .stop) (x .from) 0 q in
-        absurd (true≢false (cc))
-    go false q = let k = inside-of d (x .stop) (x .from) q in record { order = k .1; inside = k .0 }

@@ -8,7 +8,7 @@ use native.Mathlib.Omega.{arith}
 use lib.ListN.{length}
 use Rattle.answer.specs.declared.Answer.{Answer}
 use Rattle.answer.specs.Answer.{_orElse_}
-use Rattle.answer.proofs.laws.OrElse.{or-else-first, or-else-second}
+use Rattle.answer.proofs.laws.OrElse.{or-else-second, refused-first}
 use Rattle.dataset.specs.Tree.{Elements}
 use Rattle.dataset.specs.Reading.{Reading, sizeLimit, sizeAnswer, dataSet, answerOf, treeOf}
 use Rattle.dataset.specs.Extent.{elementsIn, wholeOf}
@@ -20,6 +20,7 @@ use Rattle.stream.specs.Stream.{elementsStream, listedStream}
 use Rattle.stream.specs.Listed.{tagsAnswer}
 use Rattle.stream.specs.Own.{own}
 use Rattle.stream.specs.Walk.{signedStream, WrittenAs}
+use Rattle.stream.proofs.laws.listed.ListedAnswers.{tags-end}
 use Rattle.stream.specs.Walk as walk
 use Rattle.stream.specs.declared.walk.SignatureItem.the-variants as signatureItem
 use Rattle.mac.specs.Result.{Streamed, CheckedAs}
@@ -28,7 +29,7 @@ use Rattle.mac.specs.Inner.Verdict.{CheckOf, lengthOf, lengthAnswer}
 use Rattle.mac.specs.Inner.Calls.{listCall, CallAnswered}
 use Rattle.mac.specs.declared.verdict.Checked.{Checked}
 use Rattle.mac.specs.declared.verdict.ExpectedLength.{ExpectedLength}
-use Rattle.mac.proofs.laws.EitherCall.{tags-end, measured-refused, call-refused, measured-is, call-written}
+use Rattle.mac.proofs.laws.EitherCall.{call-refused, measured-is, call-written}
 use Rattle.mac.proofs.laws.verdict.VerdictOfChecks.{AllFit, call-streamed, call-checked}
 
 module _ (l d : List ℕ) where
@@ -36,11 +37,11 @@ module _ (l d : List ℕ) where
   module _ (a : Answer) (e : a ≡ sizeAnswer d) (h : a .number ≡ 0 → ⊥) where
     over : a ≡ answerTo15 l d
     unfolding answerTo15
-    over = e ∙ sym (or-else-first (sizeAnswer d) _ (λ z. h (ap (λ (x : Answer). x .number) e ∙ z)))
+    over = refused-first a (sizeAnswer d) _ e h
 
     pub list-over : a ≡ measure l d
     unfolding measure
-    list-over = measured-refused (answerTo15 l d) (streamIn l d) a over h
+    list-over = refused-first a (answerTo15 l d) _ over h
 
     pub list-refused : (given : ExpectedLength) (out : List ℕ) → CallAnswered (listCall l d out) given limit out a out
     unfolding answer
@@ -52,7 +53,7 @@ module _ (l d : List ℕ) where
     whole = rw w (data-set-is d h)
 
     answer-is : answerTo15 l d ≡ walk.answerTo15 l d x signatureItem.Absent
-    unfolding answerTo15 walk.answerTo15
+    unfolding answerTo15 walk.answerTo15 walk.readAnswer
     answer-is =
         or-else-second (sizeAnswer d) _ (ap (λ (a : Answer). a .number) (size-within d h))
         ∙ ap (λ (p : Reading Elements). listAnswer l orElse answerOf p orElse tagsAnswer 0 (tagsIn l) (treeOf p)) whole

@@ -9,7 +9,7 @@ use native.Mathlib.Omega.{arith}
 use lib.ListN.{length}
 use Rattle.answer.specs.declared.Answer.{Answer}
 use Rattle.answer.specs.Answer.{accepted, refused, _orElse_}
-use Rattle.answer.proofs.laws.OrElse.{or-else-first, or-else-second}
+use Rattle.answer.proofs.laws.OrElse.{or-else-first, or-else-second, refused-first}
 use Rattle.slices.specs.Lists.{between}
 use Rattle.dataset.specs.Tree.{Elements}
 use Rattle.dataset.specs.Reading.{Reading, fault, read, sizeLimit, sizeAnswer, dataSet, answerOf, treeOf}
@@ -29,6 +29,7 @@ use Rattle.selection.proofs.laws.select.SelectionNumbers.{selected-number}
 use Rattle.stream.specs.TagList.{tagsIn, listAnswer}
 use Rattle.stream.specs.Listed.{tagsAnswer}
 use Rattle.stream.specs.Walk.{signedStream, WrittenAs}
+use Rattle.stream.proofs.laws.listed.ListedAnswers.{tags-end}
 use Rattle.stream.specs.Walk as walk
 use Rattle.stream.specs.declared.walk.SignatureItem.{SignatureItem}
 use Rattle.stream.specs.declared.walk.SignatureItem.the-variants as signatureItem
@@ -38,7 +39,7 @@ use Rattle.mac.specs.Inner.Verdict.{CheckOf, lengthOf, lengthAnswer}
 use Rattle.mac.specs.Inner.Calls.{signatureCall, CallAnswered, SelectionRefused, listIn, SelectionLies, SignatureSelected}
 use Rattle.mac.specs.declared.verdict.Checked.{Checked}
 use Rattle.mac.specs.declared.verdict.ExpectedLength.{ExpectedLength}
-use Rattle.mac.proofs.laws.EitherCall.{tags-end, measured-refused, call-refused, measured-is, call-written}
+use Rattle.mac.proofs.laws.EitherCall.{call-refused, measured-is, call-written}
 use Rattle.mac.proofs.laws.verdict.VerdictOfChecks.{AllFit, call-streamed, call-checked}
 
 -- ---- what is selected, where the data set is read as p
@@ -75,7 +76,7 @@ module _ (uid : List ℕ) (which : Signature) (d : List ℕ) (r : Selection) (s 
   picked (fault f) h = absurd (true≢false (cc))
   picked (read es n) h = picked-by es n (select uid which es d) refl h
 
--- ---- `select_in`
+-- ---- `select_whole`
 module _ (uid : List ℕ) (which : Signature) (d : List ℕ) where
   refused-as : (a f : Answer) → a ≡ f → (f .number ≡ 0 → ⊥) → f ≡ answerTo15 uid which d → SignatureSelected uid which d (selection.Refused a)
   refused-as a f e n q = record { number = λ z. n (ap (λ (x : Answer). x .number) (sym e) ∙ z); answers = e ∙ q }
@@ -83,7 +84,7 @@ module _ (uid : List ℕ) (which : Signature) (d : List ℕ) where
   -- 1
   pub select-over : (a : Answer) → a ≡ sizeAnswer d → (a .number ≡ 0 → ⊥) → SignatureSelected uid which d (selection.Refused a)
   unfolding answerTo15
-  select-over a e h = refused-as a a refl h (e ∙ sym (or-else-first (sizeAnswer d) _ (λ z. h (ap (λ (x : Answer). x .number) e ∙ z))))
+  select-over a e h = refused-as a a refl h (refused-first a (sizeAnswer d) _ e h)
 
   module _ (h : length d ≤ sizeLimit) (x : Extent) (w : x ≡ wholeOf (length d)) (r : Selection) (t : SelectedIn uid which d x x r) where
     whole : dataSet d ≡ elementsIn d x
@@ -126,7 +127,7 @@ module _ (uid : List ℕ) (which : Signature) (d : List ℕ) where
       is-read = whole ∙ g .reads
 
       answer-is : answerTo15 uid which d ≡ walk.answerTo15 (listIn d s) d (s .signed) item
-      unfolding selectionAnswer walk.answerTo15
+      unfolding selectionAnswer walk.answerTo15 walk.readAnswer
       answer-is =
           answer-by (read (g .elements) (g .next)) is-read what (g .selects) ∙ or-else-second (accepted 0) _ refl
           ∙ ap (λ (a : Answer). listAnswer (listIn d s) orElse a) (sym (tags-end 0 (tagsIn (listIn d s)) (g .signed)) ∙ sym (or-else-second (accepted 0) _ refl))
@@ -159,7 +160,7 @@ module _ (uid : List ℕ) (which : Signature) (d : List ℕ) (v : Selection) (t 
 
     pub refused-measured : a ≡ measure uid which d
     unfolding measure
-    refused-measured = measured-refused (answerTo15 uid which d) (streamIn uid which d) a (is-refusal .answers) (is-refusal .number)
+    refused-measured = refused-first a (answerTo15 uid which d) _ (is-refusal .answers) (is-refusal .number)
 
     pub refused-call : (given : ExpectedLength) (out : List ℕ) → CallAnswered (signatureCall uid which d out) given limit out a out
     unfolding answer

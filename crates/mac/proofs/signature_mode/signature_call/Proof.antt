@@ -4,8 +4,8 @@ use borrow.Author.Needs.{needs}
 use Rattle.mac.proofs.signature_mode.signature_call.Statement.{statement}
 use Rattle.mac.proofs.signature_mode.signature_call.Tie as tie
 
-select-in-requires : tie.Need-select-in-requires
-select-in-requires c κs = search needs
+select-whole-requires : tie.Need-select-whole-requires
+select-whole-requires c κs = search needs
 
 enum-known-answer : tie.Need-enum-known-answer
 enum-known-answer c = search needs
@@ -41,7 +41,7 @@ pub signature-call-spec : {M : Type 1} → statement M
 signature-call-spec =
     tie.close
     (tie.spec
-    select-in-requires
+    select-whole-requires
     enum-known-answer
     enum-known-selected
     length-answer-requires

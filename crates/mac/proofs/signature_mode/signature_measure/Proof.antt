@@ -4,8 +4,8 @@ use borrow.Author.Needs.{needs}
 use Rattle.mac.proofs.signature_mode.signature_measure.Statement.{statement}
 use Rattle.mac.proofs.signature_mode.signature_measure.Tie as tie
 
-select-in-requires : tie.Need-select-in-requires
-select-in-requires c κs = search needs
+select-whole-requires : tie.Need-select-whole-requires
+select-whole-requires c κs = search needs
 
 enum-known-answer : tie.Need-enum-known-answer
 enum-known-answer c = search needs
@@ -35,7 +35,7 @@ pub signature-measure-spec : {M : Type 1} → statement M
 signature-measure-spec =
     tie.close
     (tie.spec
-    select-in-requires
+    select-whole-requires
     enum-known-answer
     enum-known-selected
     sub-measure

@@ -3,10 +3,11 @@ use Prim.Native.Nat.{ℕ, _+_, _*_, _/_, _≤_, _<_}
 use mathlib.Core.Logic.{⊎-elim}
 use types.Run.{OneOf}
 use denote.Enum.Declared.{tagOf}
-use mathlib.Core.Path.{_≡_, refl, sym, _∙_}
+use mathlib.Core.Path.{_≡_, refl, sym, ap, _∙_}
 use mathlib.Core.Bool.{Bool, true, false}
 use mathlib.Core.List.{List, [], _∷_}
 use native.Mathlib.Omega.{arith}
+use lib.Dec.{ltb}
 use lib.ListN.{length, drop}
 use borrow.Author.Tests.{lt-ltb, le-ltb}
 use Rattle.answer.specs.declared.Answer.{Answer}
@@ -104,3 +105,18 @@ module _ (k : Keep) (tag : ℕ) (tags : List ℕ) where
     pub behind-next : (r : Keep) → wanted ≤ tag → r ≡ nextListed tags → r ≡ wantedBehind k tag tags
     unfolding wantedBehind if_then_else_
     behind-next r h q = q ∙ rw (e, le-ltb tag wanted h)
+
+-- the element that is wanted then
+pub still-wanted : (l : List ℕ) (count : ℕ) (c c′ : Keep) (s s′ : Listed) (tag : ℕ) (unknown holds : Bool) (past : ℕ) → c ≡ nextListed (tagsIn (drop (4 * s .index) l))
+    → s′ ≡ mergedOf count c s tag unknown holds past → c′ ≡ wantedBehind c tag (tagsIn (drop (4 * s′ .index) l)) → c′ ≡ nextListed (tagsIn (drop (4 * s′ .index) l))
+unfolding wantedBehind mergedOf if_then_else_
+still-wanted l count keep.Unbarred c′ s s′ tag unknown holds past k z q = q
+still-wanted l count keep.Nothing c′ s s′ tag unknown holds past k z q = q
+still-wanted l count (keep.Only wanted) c′ s s′ tag unknown holds past k z q = go (ltb tag wanted) refl z q
+  where
+    go : (b : Bool) → ltb tag wanted ≡ b
+        → s′ ≡ (if b then s else if ltb wanted tag then stoppedOf count 13 (s .index) else if unknown then stoppedOf count 14 (s .index)
+        else if holds then stoppedOf count 15 (s .index) else record { index = s .index + 1; answer = accepted past })
+        → c′ ≡ (if b then keep.Only wanted else nextListed (tagsIn (drop (4 * s′ .index) l))) → c′ ≡ nextListed (tagsIn (drop (4 * s′ .index) l))
+    go true e y w = w ∙ k ∙ ap (λ (t : Listed). nextListed (tagsIn (drop (4 * t .index) l))) (sym y)
+    go false e y w = w

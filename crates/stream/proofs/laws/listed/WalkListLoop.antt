@@ -30,10 +30,10 @@ use Rattle.dataset.specs.Extent.{elementsIn}
 use Rattle.dataset.specs.declared.extent.Extent.{Extent}
 use Rattle.stream.specs.declared.listed.Listed.{Listed}
 use Rattle.stream.specs.declared.keep.Keep.{Keep}
-use Rattle.stream.specs.declared.keep.Keep.the-variants as keep
 use Rattle.stream.specs.declared.writer.OneWritten.{OneWritten}
 use Rattle.stream.specs.declared.writer.OneWritten.the-variants as one
 use Rattle.stream.proofs.laws.tag_list.TagChecks.{tags-more, tags-none}
+use Rattle.stream.proofs.laws.listed.MergeArms.{still-wanted}
 use Rattle.stream.proofs.laws.listed.Finding.{find-absent, front-absent}
 use Rattle.stream.proofs.laws.listed.Merge.{Ascends, later, rest-ascends, On, inFront, on-none, on-before, on-absent, on-unknown, on-holds, on-found}
 use Rattle.stream.proofs.laws.writer.OneWalks as walk
@@ -183,21 +183,6 @@ turned : (l d xs ys : List ℕ) (left at next least past : ℕ) (c : Keep) (s s�
 turned l d xs ys left at next least past c s s′ e tag unknown holds q i a b m y f g h k z lie =
     let t = turn l d xs ys left at next least past c s s′ e q i (omega arith) (omega (arith, i .below)) m y (rw f lie) (from l (s .index)) refl k (rw (f, g, h) z) in
     (t .on, rw f at (t .state))
-
--- the element that is wanted then
-still-wanted : (l : List ℕ) (count : ℕ) (c c′ : Keep) (s s′ : Listed) (tag : ℕ) (unknown holds : Bool) (past : ℕ) → c ≡ nextListed (from l (s .index))
-    → s′ ≡ mergedOf count c s tag unknown holds past → c′ ≡ wantedBehind c tag (from l (s′ .index)) → c′ ≡ nextListed (from l (s′ .index))
-unfolding wantedBehind mergedOf if_then_else_
-still-wanted l count keep.Unbarred c′ s s′ tag unknown holds past k z q = q
-still-wanted l count keep.Nothing c′ s s′ tag unknown holds past k z q = q
-still-wanted l count (keep.Only wanted) c′ s s′ tag unknown holds past k z q = go (ltb tag wanted) refl z q
-  where
-    go : (b : Bool) → ltb tag wanted ≡ b
-        → s′ ≡ (if b then s else if ltb wanted tag then stoppedOf count 13 (s .index) else if unknown then stoppedOf count 14 (s .index)
-        else if holds then stoppedOf count 15 (s .index) else record { index = s .index + 1; answer = accepted past })
-        → c′ ≡ (if b then keep.Only wanted else nextListed (from l (s′ .index))) → c′ ≡ nextListed (from l (s′ .index))
-    go true e y w = w ∙ k ∙ ap (λ (t : Listed). nextListed (from l (t .index))) (sym y)
-    go false e y w = w
 
 -- a fault has length 0
 fault-length : (d : List ℕ) (x : Extent) (at least : ℕ) (f : Answer) → at ≤ x .stop → elementsAt explicit d (x .delimited) (x .left) (x .stop) at least ≡ fault f → f .length ≡ 0

@@ -9,14 +9,14 @@ use lib.ListN.{length}
 use Rattle.slices.specs.If.{if_then_else_}
 use Rattle.answer.specs.declared.Answer.{Answer}
 use Rattle.answer.specs.Answer.{accepted, refused, _orElse_}
-use Rattle.answer.proofs.laws.OrElse.{or-else-first, or-else-second, or-else-assoc, both-accepted}
+use Rattle.answer.proofs.laws.OrElse.{or-else-second, refused-first, or-else-assoc, both-accepted}
 use Rattle.dataset.specs.Reading.{answerOf}
 use Rattle.dataset.specs.Place.{Lies}
 use Rattle.dataset.specs.Extent.{elementsIn, outsideAnswer}
 use Rattle.dataset.specs.declared.extent.Extent.{Extent}
 use Rattle.dataset.proofs.laws.extent.Outside.{outside-fault, read-lies}
 use Rattle.stream.specs.TagList.{tagsIn, badSize, ascendingAnswer, unbarredAnswer, listAnswer}
-use Rattle.stream.specs.Walk.{itemReading, streamIn, answerTo15, measure}
+use Rattle.stream.specs.Walk.{itemReading, streamIn, readAnswer, answerTo15, measure}
 use Rattle.stream.specs.Inner.Walk.{walkAnswer, StreamWalk}
 use Rattle.stream.specs.declared.walk.SignatureItem.{SignatureItem}
 use Rattle.stream.proofs.laws.walk.StreamWalk.{walk-fault}
@@ -52,7 +52,7 @@ module _ (l d : List ℕ) (x : Extent) (item : SignatureItem) where
   -- f is the answer of the list
   module _ (f : Answer) (e : f ≡ listAnswer l) where
     pub measure-refused : (f .number ≡ 0 → ⊥) → f ≡ measure l d x item
-    measure-refused h = e ∙ sym (measure-is ∙ or-else-first (listAnswer l) _ (λ z. h (ap (λ (a : Answer). a .number) e ∙ z)))
+    measure-refused h = refused-first f (listAnswer l) walk e h ∙ sym measure-is
 
     walked : f .number ≡ 0 → measure l d x item ≡ walk
     walked h = measure-is ∙ or-else-second (listAnswer l) _ (ap (λ (a : Answer). a .number) (sym e) ∙ h)
@@ -85,5 +85,5 @@ module _ (l d : List ℕ) (x : Extent) (item : SignatureItem) where
     measured-ascends = list-ascends l (listAnswer l) refl (both-accepted (listAnswer l) _ first-accepts .first)
 
     pub measured-lies : Lies d x
-    unfolding answerTo15
+    unfolding answerTo15 readAnswer
     measured-lies = read-lies d x (both-accepted (answerOf (elementsIn d x)) _ (both-accepted (listAnswer l) _ first-accepts .second) .first)

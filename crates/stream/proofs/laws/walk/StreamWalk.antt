@@ -22,7 +22,7 @@ use Rattle.stream.specs.TagList.{tagsIn}
 use Rattle.stream.specs.Stream.{elementsStream, listedStream}
 use Rattle.stream.specs.Own.{own}
 use Rattle.stream.specs.Listed.{tagsAnswer}
-use Rattle.stream.specs.Walk.{itemReading, signedStream, streamIn}
+use Rattle.stream.specs.Walk.{itemReading, signedStream, streamIn, readAnswer}
 use Rattle.stream.specs.Inner.Own.{ownStream}
 use Rattle.stream.specs.Inner.Listed.{listedAnswer, ListedLeaves, ListWalk}
 use Rattle.stream.specs.Inner.Walk.{walkAnswer, FollowingWalk, StreamWalk}
@@ -36,18 +36,18 @@ module _ (tags d : List ℕ) where
   long p item = accepted (length (signedStream tags (treeOf p) (treeOf item) d))
 
   pub walk-fault : (f : Answer) (q : Reading Elements) → (f .number ≡ 0 → ⊥) → walkAnswer tags d (fault f) q ≡ f
-  unfolding walkAnswer
+  unfolding walkAnswer readAnswer
   walk-fault f q h = ap (λ (a : Answer). a orElse long (fault f) q) (or-else-first f _ h) ∙ or-else-first f _ h
 
   walk-tags : (es : Elements) (n : ℕ) (q : Reading Elements) → (tagsAnswer 0 tags es .number ≡ 0 → ⊥) → walkAnswer tags d (read es n) q ≡ tagsAnswer 0 tags es
-  unfolding walkAnswer
+  unfolding walkAnswer readAnswer
   walk-tags es n q h =
       ap (λ (a : Answer). a orElse long (read es n) q) (or-else-second (accepted 0) _ refl ∙ or-else-first (tagsAnswer 0 tags es) _ h) ∙ or-else-first (tagsAnswer 0 tags es) _ h
 
   -- none of 13 to 15: what the signature item reads decides
   walk-on : (es : Elements) (n : ℕ) (q : Reading Elements) → tagsAnswer 0 tags es .number ≡ 0
       → walkAnswer tags d (read es n) q ≡ (answerOf q orElse accepted (length (listedStream tags es d) + length (ownStream (treeOf q) d)))
-  unfolding walkAnswer signedStream ownStream
+  unfolding walkAnswer readAnswer signedStream ownStream
   walk-on es n q t =
       ap (λ (a : Answer). a orElse long (read es n) q) (or-else-second (accepted 0) _ refl ∙ or-else-second (tagsAnswer 0 tags es) _ t)
       ∙ ap (λ (k : ℕ). answerOf q orElse accepted k) (length-append (listedStream tags es d) (ownStream (treeOf q) d))

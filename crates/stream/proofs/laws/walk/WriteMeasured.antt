@@ -2,11 +2,12 @@
 use Prim.Native.Nat.{ℕ, _≤_, _<_}
 use native.Mathlib.Nat.{zero-add}
 use mathlib.Core.Path.{_≡_, refl, sym, ap, _∙_}
+use mathlib.Core.Bool.{false}
 use mathlib.Core.List.{List}
 use native.Mathlib.Omega.{arith}
 use lib.Dec.{ltb}
 use lib.ListN.{length}
-use lib.Seq.{sets, sets-eq}
+use lib.Seq.{sets-eq}
 use borrow.Author.Tests.{lt-ltb, le-ltb, ltb-false, eq-eqb, ne-eqb}
 use Rattle.slices.specs.If.{if_then_else_}
 use Rattle.answer.specs.declared.Answer.{Answer}
@@ -18,6 +19,16 @@ use Rattle.stream.specs.Inner.Walk.{StreamWalk}
 use Rattle.stream.specs.declared.walk.SignatureItem.{SignatureItem}
 use Rattle.stream.proofs.laws.walk.Measuring.{first-accepts, measured-long, measure-walk}
 
+-- ---- where 16 is not given
+pub from16-accepts : (stream : List ℕ) (room : ℕ) → answerFrom16 stream room .number ≡ 0 → ltb room (length stream) ≡ false
+unfolding answerFrom16
+from16-accepts stream room h = passed (ltb room (length stream)) 16 0 (λ z. omega arith) (both-accepted _ _ h .first)
+
+pub from16-accepted : (stream : List ℕ) (room : ℕ) → ltb room (length stream) ≡ false → answerFrom16 stream room ≡ accepted (length stream)
+unfolding answerFrom16 if_then_else_
+from16-accepted stream room h = or-else-second _ _ (rw h)
+
+-- ---- the places of `write`
 module _ (l d : List ℕ) (x : Extent) (item : SignatureItem) (later : Answer) (out : List ℕ) where
   -- a refusal leaves the output alone
   refuses : (a : Answer) → a ≡ answer l d x item later (length out) → (a .number ≡ 0 → ⊥) → WrittenAs l d x item later out a out
@@ -57,30 +68,30 @@ module _ (l d : List ℕ) (x : Extent) (item : SignatureItem) (later : Answer) (
             (λ z. let y : _≡_ {A = ℕ} 16 0 = ap (λ (b : Answer). b .number) (sym q) ∙ z in omega arith)
 
         pub write-written : (r : Answer) (ys : List ℕ) → StreamWalk l d x item r out ys → m .length ≤ length out → WrittenAs l d x item later out r ys
-        unfolding answerFrom16 leftIn if_then_else_
+        unfolding leftIn if_then_else_
         write-written r ys w j =
             let q : r ≡ accepted (length all) = w .answers ∙ sym (e ∙ measure-walk l d x item m e h) ∙ measured-long l d x item m e h in
             let z : r .number ≡ 0 = ap (λ (b : Answer). b .number) q in
             record {
-              answers = q ∙ sym (at-16 ∙ rw (le-ltb (length out) (length all) (omega (arith, long))) (or-else-second (accepted 0) _ refl));
+              answers = q ∙ sym (at-16 ∙ from16-accepted all (length out) (le-ltb (length out) (length all) (omega (arith, long))));
               output = w .output z ∙ sets-eq all out 0 (omega (arith, long)) ∙ rw (eq-eqb (r .number) 0 z, zero-add (length all));
               short = w .short;
             }
 
--- ---- what an accepted call for the writing says
+-- ---- what an accepted call says
 pub record Fits (stream out : List ℕ) (r : Answer) : Type 0 where
   pub long : r .length ≡ length stream
   pub room : r .length ≤ length out
 
 pub written-fits : (l d : List ℕ) (x : Extent) (item : SignatureItem) (later : Answer) (out : List ℕ) (r : Answer) (after : List ℕ) → WrittenAs l d x item later out r after
     → r .number ≡ 0 → Fits (streamIn l d x item) out r
-unfolding answer answerFrom16
+unfolding answer
 written-fits l d x item later out r after w h =
     let all = streamIn l d x item in
     let first = both-accepted (answerTo15 l d x item) (later orElse answerFrom16 all (length out)) (ap (λ (a : Answer). a .number) (sym (w .answers)) ∙ h) in
     let next = both-accepted later (answerFrom16 all (length out)) (first .second) in
-    let fits = both-accepted (if ltb (length out) (length all) then refused 16 0 else accepted 0) (accepted (length all)) (next .second) in
+    let fits = from16-accepts all (length out) (next .second) in
     let q : r ≡ accepted (length all) =
-    w .answers ∙ or-else-second (answerTo15 l d x item) _ (first .first) ∙ or-else-second later _ (next .first) ∙ or-else-second _ (accepted (length all)) (fits .first) in
+    w .answers ∙ or-else-second (answerTo15 l d x item) _ (first .first) ∙ or-else-second later _ (next .first) ∙ from16-accepted all (length out) fits in
     let n = ap (λ (a : Answer). a .length) q in
-    record { long = n; room = omega (arith, n, ltb-false (length out) (length all) (passed (ltb (length out) (length all)) 16 0 (λ z. omega arith) (fits .first))) }
+    record { long = n; room = omega (arith, n, ltb-false (length out) (length all) fits) }

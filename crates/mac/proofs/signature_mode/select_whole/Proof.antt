@@ -1,9 +1,9 @@
--- `select_in` meets its contract: each place by its law in SignatureMode. Assumes nothing.
+-- `select_whole` meets its contract: each place by its law in SignatureMode. Assumes nothing.
 use Rattle.mac.proofs.laws.signature_mode.SignatureMode as steps
 use Rattle.dataset.proofs.laws.reading.Loops.{size-passed}
 use borrow.Author.Needs.{needs}
-use Rattle.mac.proofs.signature_mode.select_in.Statement.{statement}
-use Rattle.mac.proofs.signature_mode.select_in.Tie as tie
+use Rattle.mac.proofs.signature_mode.select_whole.Statement.{statement}
+use Rattle.mac.proofs.signature_mode.select_whole.Tie as tie
 
 size-answer-requires : tie.Need-size-answer-requires
 size-answer-requires c κs = search needs
@@ -20,6 +20,6 @@ select-requires c κs = search needs
 returns-2 : tie.Need-returns-2
 returns-2 c = search (steps.select-selected, size-passed)
 
-pub select-in-spec : {M : Type 1} → statement M
-select-in-spec =
+pub select-whole-spec : {M : Type 1} → statement M
+select-whole-spec =
     tie.close (tie.spec size-answer-requires returns whole-requires select-requires returns-2)
