@@ -2,10 +2,10 @@
 use crate::bytes;
 use crate::fields;
 use crate::fields::Number;
-use crate::frame_kind;
 use crate::mode_kinds;
-use crate::print;
-use crate::reading_kinds;
+use case_calls::frame_kind;
+use case_calls::print;
+use case_calls::reading_kinds;
 
 // What a case asks for: of its DATA or INPUT, or a call of a mode, or to measure one.
 enum Asked {

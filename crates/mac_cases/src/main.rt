@@ -14,13 +14,11 @@
 //   NAME signature-measure UID WHICH DATA                prints as list-measure does
 //   NAME frame INPUT                                     prints NAME, a newline, and what the stream program prints for the input
 mod bytes;
-mod calls;
 mod fields;
-mod frame_kind;
 mod kinds;
 mod mode_kinds;
-mod print;
-mod reading_kinds;
+
+use case_calls::print;
 
 // Runs each line of the text.
 fn run(text: &[u8]) {

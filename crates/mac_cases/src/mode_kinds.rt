@@ -6,9 +6,9 @@
 //   list-measure LIST DATA
 //   signature-measure UID WHICH DATA
 use crate::bytes;
-use crate::calls;
 use crate::fields;
 use crate::fields::Number;
+use case_calls::calls;
 use selection::select::Signature;
 
 // Which signature: none, or a number in decimal.

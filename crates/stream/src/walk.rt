@@ -58,7 +58,7 @@ fn write_stream(list: &[u8], d: &[u8], x: Extent, item: SignatureItem, out: &mut
 }
 
 // Measures the stream of a list in the data set in x, and of a signature item: 10 to 12, the fault of the reading, 13 to 15, or the stream's
-// length. Nothing is written. An extent outside the data is 2.
+// length. Nothing is written. An extent outside the data is 2. The size is not tested: `reading::size_answer` comes before.
 pub fn measure(list: &[u8], d: &[u8], x: Extent, item: SignatureItem) -> Answer
     ensures { λ r. ⌜ r ≡ spec.measure (now (list .entry)) (now (d .entry)) x item ⌝ }
 {

@@ -2,8 +2,8 @@
 use borrow.Author.Needs.{needs}
 use Prim.Native.Nat.{_-_, _≤_}
 use lib.ListN.{length}
-use Rattle.mac_cases.proofs.print.hex.Statement.{statement}
-use Rattle.mac_cases.proofs.print.hex.Tie as tie
+use Rattle.case_calls.proofs.print.hex.Statement.{statement}
+use Rattle.case_calls.proofs.print.hex.Tie as tie
 
 abbrev Inv-loop : tie.InvT-loop
 Inv-loop bytes i₀ i = i ≤ length bytes

@@ -5,7 +5,7 @@ use dataset::reading;
 use dataset::reading::OneOutcome;
 use libc::STDOUT_FILENO;
 
-pub(crate) fn print_reading(d: &[u8]) {
+pub fn print_reading(d: &[u8]) {
     let a = reading::read(d);
     print::fault(a.number, a.position);
     print::byte(b'\n');
@@ -32,7 +32,7 @@ fn print_element(tag: u32, vr: u16, start: usize, end: usize, next: usize) {
 }
 
 // What the reader of one element answers at the start of the data, with so many levels left.
-pub(crate) fn print_one(d: &[u8], left: u32) {
+pub fn print_one(d: &[u8], left: u32) {
     match reading::read_one(d, false, left, d.len(), 0, 0) {
         OneOutcome::Refused(a) => print::fault(a.number, a.position),
         OneOutcome::End(_) => print::text(b" end"),
@@ -55,7 +55,7 @@ fn yes_or_no(b: bool) {
     }
 }
 
-pub(crate) fn print_lookup(d: &[u8], tag: u32) {
+pub fn print_lookup(d: &[u8], tag: u32) {
     let mut number: u8 = 0;
     let mut position: usize = 0;
     let mut present = false;

@@ -1,5 +1,4 @@
 // The calls of the two modes, and what is printed of them.
-use crate::fields;
 use crate::print;
 use answer::Answer;
 use mac::list_mode;
@@ -16,7 +15,7 @@ fn print_answer(answer: Answer) {
 // The answer, and the stream in hex.
 fn print_stream(answer: Answer, out: &[u8]) {
     print_answer(answer);
-    print::hex(fields::part(out, 0, answer.length));
+    print::hex(print::first(out, answer.length));
     print::byte(b'\n');
 }
 
@@ -37,7 +36,7 @@ fn print_check(checked: Checked) {
 }
 
 // Makes the call of a case, with an output room or work buffer, and prints what it gives back.
-pub(crate) fn print_call(
+pub fn print_call(
     signature: bool,
     check: bool,
     expected: &[u8],
@@ -64,7 +63,7 @@ pub(crate) fn print_call(
 }
 
 // Makes a measuring call and prints its answer.
-pub(crate) fn print_measure(signature: bool, list_or_uid: &[u8], which: Signature, d: &[u8]) {
+pub fn print_measure(signature: bool, list_or_uid: &[u8], which: Signature, d: &[u8]) {
     if signature {
         print_answer(signature_mode::signature_measure(list_or_uid, which, d));
     } else {

@@ -1,7 +1,7 @@
-// What a case prints.
+// What a case prints: to standard output.
 use libc::STDOUT_FILENO;
 
-pub(crate) fn text(s: &[u8]) {
+pub fn text(s: &[u8]) {
     io::write_all(STDOUT_FILENO, s);
 }
 
@@ -36,4 +36,13 @@ pub(crate) fn hex(bytes: &[u8]) {
         io::print_hex(STDOUT_FILENO, wide(bytes[i]), 2);
         i += 1;
     }
+}
+
+// The first n bytes of s; no bytes where it has fewer.
+pub(crate) fn first(s: &[u8], n: usize) -> &[u8] {
+    let start = 0;
+    if s.len() < n {
+        return &s[start..start];
+    }
+    &s[start..n]
 }
