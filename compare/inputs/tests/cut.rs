@@ -1,4 +1,4 @@
-//! examples/cut.sh on DICOM files, held to `part10`.
+//! examples/cut.sh and the lines of README that cut a DICOM file, held to `part10`.
 
 use inputs::coding::{code, Element};
 use inputs::part10;
@@ -6,6 +6,7 @@ use std::fs;
 use std::path::{Path, PathBuf};
 use std::process::Command;
 
+const README: &str = include_str!("../../../README.md");
 const SIGNED: &[u8] = include_bytes!("../../../examples/signed.data");
 const EXPLICIT: &str = "1.2.840.10008.1.2.1";
 const RLE: &str = "1.2.840.10008.1.2.5";
@@ -24,6 +25,17 @@ fn cut(name: &str, file: &[u8]) -> (i32, String, String, Option<Vec<u8>>) {
     let ran = Command::new("sh").arg(script).args([&from, &to]).output().unwrap();
     let text = |bytes| String::from_utf8(bytes).unwrap().replace(from.to_str().unwrap(), "FILE");
     (ran.status.code().unwrap(), text(ran.stdout), text(ran.stderr), fs::read(&to).ok())
+}
+
+/// Runs README's lines on these bytes: the UID and the data set.
+fn cut_by_lines(name: &str, file: &[u8]) -> (String, Vec<u8>) {
+    let folder = temporary(name);
+    fs::create_dir_all(&folder).unwrap();
+    fs::write(folder.join("STUDY.dcm"), file).unwrap();
+    let lines = README.lines().map(str::trim).skip_while(|line| !line.starts_with("n=$(od")).take(3);
+    let script = lines.chain(["echo \"$uid\""]).collect::<Vec<_>>().join("\n");
+    let ran = Command::new("sh").arg("-c").arg(script).current_dir(&folder).output().unwrap();
+    (String::from_utf8(ran.stdout).unwrap(), fs::read(folder.join("study.data")).unwrap())
 }
 
 fn file(meta: &[u8], data: &[u8]) -> Vec<u8> {
@@ -59,6 +71,9 @@ fn the_data_set_and_its_transfer_syntax() {
         assert_eq!((read.transfer_syntax, read.data), (uid, data), "{name}");
         let written = (0, format!("{uid}\n"), String::new(), Some(data.to_vec()));
         assert_eq!(cut(name, &file), written, "{name}");
+        if name != "syntax-alone" {
+            assert_eq!(cut_by_lines(name, &file), (format!("{uid}\n"), data.to_vec()), "{name}");
+        }
     }
 }
 

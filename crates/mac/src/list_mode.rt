@@ -5,6 +5,7 @@ use crate::verdict::ExpectedLength;
 use answer::Answer;
 use dataset::extent;
 use dataset::reading;
+use selection::select::Algorithm;
 use stream::walk;
 use stream::walk::SignatureItem;
 ghost use mathlib.Core.Path.{_≡_};
@@ -34,7 +35,7 @@ fn list_call(list: &[u8], d: &[u8], expected: ExpectedLength, out: &mut [u8]) ->
         return size;
     }
     let whole = extent::whole(d.len());
-    let later = verdict::length_answer(expected);
+    let later = verdict::length_answer(Algorithm::Sha256, expected);
     walk::write(list, d, whole, SignatureItem::Absent, later, out)
 }
 
@@ -50,5 +51,5 @@ pub fn list_check(list: &[u8], d: &[u8], expected: &[u8], work: &mut [u8]) -> Ch
     ensures { λ r. ⌜ CheckedAs (result (checkCall (now (list .entry)) (now (d .entry)) (now (expected .entry)) (now (work .entry)))) (now (d .entry)) (now (work .entry)) r (now (work .exit)) ⌝ }
 {
     let answer = list_call(list, d, ExpectedLength::Length(expected.len()), work);
-    verdict::check_of(answer, expected, work)
+    verdict::check_of(Algorithm::Sha256, answer, expected, work)
 }

@@ -2,19 +2,25 @@
 use crate::verdict;
 use crate::verdict::Checked;
 use crate::verdict::ExpectedLength;
+use crate::verdict::Verdict;
 use answer::Answer;
 use dataset::extent;
 use dataset::reading;
 use selection::select;
+use selection::select::Selected;
 use selection::select::Selection;
 use selection::select::Signature;
 use stream::walk;
 use stream::walk::SignatureItem;
 ghost use mathlib.Core.Path.{_≡_};
-ghost use Rattle.digest.specs.Message.{limit};
+ghost use Prim.Native.Nat.{_≤_};
+ghost use lib.ListN.{length};
+ghost use Rattle.stream.specs.Walk.{WrittenAs};
+ghost use Rattle.stream.specs.declared.walk.SignatureItem.the-variants as signatureItem;
 ghost use Rattle.mac.specs.Result.{Streamed, CheckedAs};
 ghost use Rattle.mac.specs.SignatureMode.{measure, streamCall, checkCall, result};
-ghost use Rattle.mac.specs.Inner.Calls.{SignatureSelected, signatureCall, CallAnswered};
+ghost use Rattle.mac.specs.Inner.Verdict.{lengthAnswer};
+ghost use Rattle.mac.specs.Inner.Calls.{SignatureSelected, listIn};
 
 // What is selected in a whole data set; or 1 to 8, 18 to 23.
 fn select_whole(uid: &[u8], which: Signature, d: &[u8]) -> Selection
@@ -45,35 +51,29 @@ pub fn signature_measure(uid: &[u8], which: Signature, d: &[u8]) -> Answer
     }
 }
 
-// The answer of a call, by the length of its expected digest; where it is accepted the stream is written.
-fn signature_call(
-    uid: &[u8],
-    which: Signature,
-    d: &[u8],
-    expected: ExpectedLength,
-    out: &mut [u8],
-) -> Answer
-    ensures { λ r. ⌜ CallAnswered (signatureCall (now (uid .entry)) which (now (d .entry)) (now (out .entry))) expected limit (now (out .entry)) r (now (out .exit)) ⌝ }
+// Writes the stream of what is selected, with 9 by the length of the expected digest.
+fn write_selected(d: &[u8], selected: Selected, expected: ExpectedLength, out: &mut [u8]) -> Answer
+    requires { ⌜ (selected .start ≤ selected .end) × (selected .end ≤ length (now d)) ⌝ }
+    ensures { λ r. ⌜ WrittenAs (listIn (now (d .entry)) selected) (now (d .entry)) (selected .signed) (signatureItem.Item (selected .item)) (lengthAnswer (selected .algorithm) expected) (now (out .entry)) r (now (out .exit)) ⌝ }
 {
-    match select_whole(uid, which, d) {
-        Selection::Refused(answer) => answer,
-        Selection::Selected(selected) => {
-            let start = selected.start;
-            let end = selected.end;
-            let signed = selected.signed;
-            let inside = selected.item;
-            let item = SignatureItem::Item(inside);
-            let later = verdict::length_answer(expected);
-            walk::write(&d[start..end], d, signed, item, later, out)
-        }
-    }
+    let start = selected.start;
+    let end = selected.end;
+    let signed = selected.signed;
+    let inside = selected.item;
+    let algorithm = selected.algorithm;
+    let item = SignatureItem::Item(inside);
+    let later = verdict::length_answer(algorithm, expected);
+    walk::write(&d[start..end], d, signed, item, later, out)
 }
 
 // The stream of a signature in a data set, into the output: with the UID of the data set's transfer syntax.
 pub fn signature_stream(uid: &[u8], which: Signature, d: &[u8], out: &mut [u8]) -> Answer
     ensures { λ r. ⌜ Streamed (result (streamCall (now (uid .entry)) which (now (d .entry)) (now (out .entry)))) (now (d .entry)) (now (out .entry)) r (now (out .exit)) ⌝ }
 {
-    signature_call(uid, which, d, ExpectedLength::Absent, out)
+    match select_whole(uid, which, d) {
+        Selection::Refused(answer) => answer,
+        Selection::Selected(selected) => write_selected(d, selected, ExpectedLength::Absent, out),
+    }
 }
 
 // The check of the stream's digest: the stream is written into the work buffer.
@@ -86,6 +86,16 @@ pub fn signature_check(
 ) -> Checked
     ensures { λ r. ⌜ CheckedAs (result (checkCall (now (uid .entry)) which (now (d .entry)) (now (expected .entry)) (now (work .entry)))) (now (d .entry)) (now (work .entry)) r (now (work .exit)) ⌝ }
 {
-    let answer = signature_call(uid, which, d, ExpectedLength::Length(expected.len()), work);
-    verdict::check_of(answer, expected, work)
+    match select_whole(uid, which, d) {
+        Selection::Refused(answer) => Checked {
+            answer,
+            verdict: Verdict::Neither,
+        },
+        Selection::Selected(selected) => {
+            let algorithm = selected.algorithm;
+            let length = ExpectedLength::Length(expected.len());
+            let answer = write_selected(d, selected, length, work);
+            verdict::check_of(algorithm, answer, expected, work)
+        }
+    }
 }

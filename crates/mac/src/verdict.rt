@@ -1,12 +1,15 @@
 // What a check says.
 use answer::Answer;
 use digest::message;
+use digest::message::Hashed;
+use selection::select::Algorithm;
 ghost use mathlib.Core.Path.{_≡_};
 ghost use mathlib.Core.Option.{some};
 ghost use Prim.Native.Nat.{_≤_};
 ghost use lib.ListN.{length};
+ghost use Rattle.digest.specs.Message.{hashing};
 ghost use Rattle.mac.specs.Result.{verdictCode, compared};
-ghost use Rattle.mac.specs.Inner.Verdict.{CheckOf, lengthAnswer};
+ghost use Rattle.mac.specs.Inner.Verdict.{CheckOf, digestLength, standard, lengthAnswer};
 
 // Whether the digest of the stream is the expected one; a check that is refused says neither of the two.
 pub enum Verdict {
@@ -27,14 +30,33 @@ pub(crate) enum ExpectedLength {
     Length(usize),
 }
 
+// How many bytes a digest has.
+fn digest_length(algorithm: Algorithm) -> usize
+    ensures { λ r. ⌜ r ≡ digestLength algorithm ⌝ }
+{
+    match algorithm {
+        Algorithm::Sha256 => 32,
+    }
+}
+
+// The digest of a message.
+fn digest_by(algorithm: Algorithm, message: &[u8]) -> Hashed
+    ensures { λ r. ⌜ r ≡ hashing (standard algorithm) (now (message .entry)) ⌝ }
+{
+    match algorithm {
+        Algorithm::Sha256 => message::sha256(message),
+    }
+}
+
 // 9, where an expected digest has not the length of a digest; or else number 0.
-pub(crate) fn length_answer(expected: ExpectedLength) -> Answer
-    ensures { λ r. ⌜ r ≡ lengthAnswer expected ⌝ }
+pub(crate) fn length_answer(algorithm: Algorithm, expected: ExpectedLength) -> Answer
+    ensures { λ r. ⌜ r ≡ lengthAnswer algorithm expected ⌝ }
 {
     let ExpectedLength::Length(length) = expected else {
         return Answer::accepted(0);
     };
-    if length != 32 {
+    let right = digest_length(algorithm);
+    if length != right {
         return Answer::refused(9, 0);
     }
     Answer::accepted(0)
@@ -51,9 +73,14 @@ fn verdict_of(digest: &[u8], expected: &[u8]) -> Verdict
 }
 
 // A check, by the answer of its stream, which stands in the work buffer where it is accepted.
-pub(crate) fn check_of(answer: Answer, expected: &[u8], work: &[u8]) -> Checked
+pub(crate) fn check_of(
+    algorithm: Algorithm,
+    answer: Answer,
+    expected: &[u8],
+    work: &[u8],
+) -> Checked
     requires { ⌜ (answer .number ≡ 0 → answer .length ≤ length (now work)) ⌝ }
-    ensures { λ r. ⌜ CheckOf answer (now (expected .entry)) (now (work .entry)) r ⌝ }
+    ensures { λ r. ⌜ CheckOf algorithm answer (now (expected .entry)) (now (work .entry)) r ⌝ }
 {
     if answer.number != 0 {
         return Checked {
@@ -62,7 +89,7 @@ pub(crate) fn check_of(answer: Answer, expected: &[u8], work: &[u8]) -> Checked
         };
     }
     let length = answer.length;
-    let hashed = message::sha256(&work[..length]);
+    let hashed = digest_by(algorithm, &work[..length]);
     let digest = hashed.digest;
     let verdict = verdict_of(&digest, expected);
     Checked { answer, verdict }

@@ -14,7 +14,7 @@ ghost use Rattle.answer.specs.Answer as Spec;
 ghost use Rattle.dataset.specs.Place.{Lies};
 ghost use Rattle.dataset.specs.Inner.Place.{Located};
 ghost use Rattle.selection.specs.Selected.{SelectedIn};
-ghost use Rattle.selection.specs.Inner.Selection.{keyOf, SelectOf};
+ghost use Rattle.selection.specs.Inner.Selection.{FoundItemUnder, chosenBy, SelectOf};
 ghost use Rattle.selection.specs.declared.select.Selection.the-variants as selection;
 
 // Which signature: none is named, or by its number from 0.
@@ -51,30 +51,33 @@ pub(crate) fn refused(number: u8) -> Selection
     Selection::Refused(Answer::refused(number, 0))
 }
 
-// By what the signature item is found; where no number is given, 0 is taken.
-fn key_of(which: Signature) -> ItemKey
-    ensures { λ r. ⌜ r ≡ keyOf which ⌝ }
+// The signature item, by the caller's choice, of what stands under (FFFA,FFFA); where no number is given, 0 is taken.
+fn signature_item(d: &[u8], which: Signature, signatures: Place) -> FoundItem
+    requires { ⌜ Located (now d) signatures ⌝ }
+    ensures { λ r. ⌜ FoundItemUnder (now (d .entry)) signatures (chosenBy which) r ⌝ }
 {
     match which {
-        Signature::Unnamed => ItemKey::Number(0),
-        Signature::Number(number) => ItemKey::Number(number),
+        Signature::Unnamed => items::find_item_under(d, signatures, ItemKey::Number(0)),
+        Signature::Number(number) => {
+            items::find_item_under(d, signatures, ItemKey::Number(number))
+        }
     }
 }
 
-// 18 to 23, in the data set x, by what stands under the tags of the two sequences.
+// 18 to 23, in the data set x, which is `whole` or stands in it, by what stands under the tags of the two sequences.
 fn select_from(
     uid: &[u8],
     which: Signature,
     d: &[u8],
+    whole: Extent,
     x: Extent,
     parameters: Place,
     signatures: Place,
 ) -> Selection
     requires { ⌜ Lies (now d) x × Located (now d) parameters × Located (now d) signatures ⌝ }
-    ensures { λ r. ⌜ SelectOf (now (uid .entry)) which (now (d .entry)) x parameters signatures r ⌝ }
+    ensures { λ r. ⌜ SelectOf (now (uid .entry)) which (now (d .entry)) whole x parameters signatures r ⌝ }
 {
-    let key = key_of(which);
-    let signature = items::find_item_under(d, signatures, key);
+    let signature = signature_item(d, which, signatures);
     let FoundItem::Item {
         inside: item,
         id,
@@ -117,6 +120,6 @@ pub fn select(uid: &[u8], which: Signature, d: &[u8], whole: Extent, x: Extent) 
             first: parameters,
             second: signatures,
             next: _,
-        } => select_from(uid, which, d, x, parameters, signatures),
+        } => select_from(uid, which, d, whole, x, parameters, signatures),
     }
 }

@@ -16,6 +16,8 @@ use Rattle.stream.specs.Walk.{answerFrom16, leftIn, WrittenAs}
 use Rattle.stream.specs.Walk as walk
 use Rattle.stream.specs.declared.walk.SignatureItem.{SignatureItem}
 use Rattle.stream.proofs.laws.walk.WriteMeasured.{written-fits}
+use Rattle.selection.specs.declared.select.Algorithm.{Algorithm}
+use Rattle.selection.specs.declared.select.Algorithm.the-variants as algorithm
 use Rattle.mac.specs.Modes.{badDigestLength, answerFrom9}
 use Rattle.mac.specs.Result.{Result, outputAfter}
 use Rattle.mac.specs.Inner.Verdict.{lengthOf, lengthAnswer}
@@ -23,10 +25,10 @@ use Rattle.mac.specs.Inner.Calls.{CallAnswered}
 use Rattle.mac.specs.declared.verdict.ExpectedLength.{ExpectedLength}
 
 -- ---- 9
-nine : (expected : Option (List ℕ)) → (if badDigestLength expected then refused 9 0 else accepted 0) ≡ lengthAnswer (lengthOf expected)
+nine : (of : Algorithm) (expected : Option (List ℕ)) → (if badDigestLength expected then refused 9 0 else accepted 0) ≡ lengthAnswer of (lengthOf expected)
 unfolding if_then_else_
-nine Opt.none = refl
-nine (some e) = refl
+nine of Opt.none = refl
+nine algorithm.Sha256 (some e) = refl
 
 -- ---- a call with this stream whose order up to 15 comes to `first`
 abbrev pub callOf : (first : Answer) (stream : List ℕ) (room : ℕ) → Option (List ℕ) → Result
@@ -52,16 +54,16 @@ module _ (first : Answer) (stream : List ℕ) where
     unfolding walk.measure
     measured-is r q = q ∙ rw (e, s) refl
 
-    pub call-written : (given : ExpectedLength) (most : ℕ) (out : List ℕ) → length d + length d ≤ most → (later : Answer) → later ≡ lengthAnswer given
+    pub call-written : (of : Algorithm) (given : ExpectedLength) (most : ℕ) (out : List ℕ) → length d + length d ≤ most → (later : Answer) → later ≡ lengthAnswer of given
         → (r : Answer) (ys : List ℕ) → WrittenAs l d x item later out r ys → CallAnswered (callOf first stream (length out)) given most out r ys
     unfolding outputAfter walk.answer answerFrom9
-    call-written given most out k later q r ys t =
+    call-written of given most out k later q r ys t =
         let from16 = answerFrom16 stream (length out) in
         let same : (expected : Option (List ℕ)) → lengthOf expected ≡ given → r ≡ (first orElse answerFrom9 stream (length out) expected) =
         λ expected g.
         t .answers ∙ ap (λ (a : Answer). a orElse later orElse answerFrom16 (walk.streamIn l d x item) (length out)) (sym e)
         ∙ ap (λ (b : List ℕ). first orElse later orElse answerFrom16 b (length out)) (sym s)
-        ∙ ap (λ (a : Answer). first orElse a orElse from16) (q ∙ ap lengthAnswer (sym g) ∙ sym (nine expected)) in
+        ∙ ap (λ (a : Answer). first orElse a orElse from16) (q ∙ ap (lengthAnswer of) (sym g) ∙ sym (nine of expected)) in
         record {
           streamed = λ expected g. record {
             answers = same expected g;

@@ -2,20 +2,34 @@
 -- Assumes nothing.
 use Prim.Native.Nat.{ℕ}
 use mathlib.Core.Path.{_≡_}
+use mathlib.Core.Bool.{not}
 use mathlib.Core.List.{List}
 use mathlib.Core.Option.{Option, some}
 use mathlib.Core.Option as Opt
+use lib.Dec.{eqb}
 use lib.ListN.{length, take}
 use Rattle.slices.specs.If.{if_then_else_}
 use Rattle.answer.specs.declared.Answer.{Answer}
 use Rattle.answer.specs.Answer.{accepted, refused}
 use Rattle.digest.specs.Message.{hashing}
+use Rattle.digest.specs.Message as digest
 use Rattle.digest.specs.Sha256.{sha256}
-use Rattle.mac.specs.Modes.{notDigestLength}
+use Rattle.selection.specs.declared.select.Algorithm.{Algorithm}
+use Rattle.selection.specs.declared.select.Algorithm.the-variants as algorithm
 use Rattle.mac.specs.Result.{neither, verdictCode, compared}
 use Rattle.mac.specs.declared.verdict.Checked.{Checked}
 use Rattle.mac.specs.declared.verdict.ExpectedLength.{ExpectedLength}
 use Rattle.mac.specs.declared.verdict.ExpectedLength.the-variants as expectedLength
+
+-- ---- the code's cases of an algorithm: the definition of its digest, and how many bytes that has
+
+abbrev pub standard : Algorithm → digest.Algorithm
+standard algorithm.Sha256 = sha256
+
+abbrev pub digestLength : Algorithm → ℕ
+digestLength algorithm.Sha256 = 32
+
+-- ---- a check
 
 -- an expected digest as it is handed down
 abbrev pub lengthOf : Option (List ℕ) → ExpectedLength
@@ -23,11 +37,11 @@ lengthOf Opt.none = expectedLength.Absent
 lengthOf (some e) = expectedLength.Length (length e)
 
 -- 9, by what is handed down; or else number 0
-abbrev pub lengthAnswer : ExpectedLength → Answer
-lengthAnswer expectedLength.Absent = accepted 0
-lengthAnswer (expectedLength.Length n) = if notDigestLength n then refused 9 0 else accepted 0
+abbrev pub lengthAnswer : Algorithm → ExpectedLength → Answer
+lengthAnswer a expectedLength.Absent = accepted 0
+lengthAnswer a (expectedLength.Length n) = if not (eqb n (digestLength a)) then refused 9 0 else accepted 0
 
-pub record CheckOf (a : Answer) (expected work : List ℕ) (r : Checked) : Type 0 where
+pub record CheckOf (algorithm : Algorithm) (a : Answer) (expected work : List ℕ) (r : Checked) : Type 0 where
   pub answers : r .answer ≡ a
   pub refused : (a .number ≡ 0 → ⊥) → verdictCode (r .verdict) ≡ neither
-  pub says : a .number ≡ 0 → verdictCode (r .verdict) ≡ compared (some expected) (hashing sha256 (take (a .length) work) .digest)
+  pub says : a .number ≡ 0 → verdictCode (r .verdict) ≡ compared (some expected) (hashing (standard algorithm) (take (a .length) work) .digest)

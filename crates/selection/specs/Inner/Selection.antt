@@ -11,7 +11,7 @@ use lib.ListN.{length, take}
 use Rattle.slices.specs.Lists.{between}
 use Rattle.dataset.specs.Vr.{CS, UI, US}
 use Rattle.dataset.specs.Tree.{Element, Elements, Items}
-use Rattle.dataset.specs.Reading.{Reading, fault, read}
+use Rattle.dataset.specs.Reading.{Reading, fault, read, treeOf}
 use Rattle.dataset.specs.Lookup.{elementOf}
 use Rattle.selection.specs.Selection.{itemsOf, valueOf, firstItem, itemWhere, twoBytes, macIdOf, isId, lessNul, badTransferSyntax, algorithmOf, parametersSelect, selectIn}
 use Rattle.dataset.specs.Tags.{macIdNumber, dataElementsSigned, macParametersSequence, digitalSignaturesSequence}
@@ -36,11 +36,6 @@ use Rattle.selection.specs.declared.select.Signature.the-variants as sig
 abbrev pub hasKey : List ℕ → ItemKey → (index : ℕ) → Elements → Bool
 hasKey d (key.Number n) index es = eqb index n
 hasKey d (key.MacId start end) index es = isId (between d start end) (macIdOf es d)
-
--- by what the signature item is found
-abbrev pub keyOf : Signature → ItemKey
-keyOf signature.Unnamed = key.Number 0
-keyOf (signature.Number number) = key.Number number
 
 abbrev pub KeyLies : List ℕ → ItemKey → Type 0
 KeyLies d (key.Number n) = Unit {0}
@@ -78,9 +73,18 @@ SameMacId d p start end r = Tests Bool US (λ value. isId (between d start end) 
 abbrev pub TestsKey : List ℕ → ItemKey → (index : ℕ) → Place → Bool → Type 0
 TestsKey d w index p r = (es : Elements) → Placed d (elementOf macIdNumber es) p → r ≡ hasKey d w index es
 
--- the first item with the key, of the element o, which lies at p
-pub record FoundItemUnder (d : List ℕ) (p : Place) (w : ItemKey) (r : FoundItem) : Type 0 where
-  pub says : (o : Option Element) → Placed d o p → FoundItemAs d (itemWhere (hasKey d w) (itemsOf o)) r
+-- the item that is chosen of the element o, which lies at p
+pub record FoundItemUnder (d : List ℕ) (p : Place) (choose : Option Items → Option Elements) (r : FoundItem) : Type 0 where
+  pub says : (o : Option Element) → Placed d o p → FoundItemAs d (choose (itemsOf o)) r
+
+-- the first with a key
+abbrev pub firstWith : List ℕ → ItemKey → Option Items → Option Elements
+firstWith d w items = itemWhere (hasKey d w) items
+
+-- the signature item, by the caller's choice: `signatureItem`, of the items
+abbrev pub chosenBy : Signature → Option Items → Option Elements
+chosenBy signature.Unnamed items = itemWhere (λ index item. eqb index 0) items
+chosenBy (signature.Number number) items = itemWhere (λ index item. eqb index number) items
 
 -- ---- the tests of the parameters item
 
@@ -107,8 +111,8 @@ pub record ParametersSelected (uid d : List ℕ) (signed item parameters : Exten
   pub says : (es is ps : Elements) (k n m : ℕ) → elementsIn d signed ≡ read es k → elementsIn d item ≡ read is n → elementsIn d parameters ≡ read ps m
       → Placed d (elementOf dataElementsSigned ps) list → SelectionAs d signed (parametersSelect uid d es is ps) r
 
--- by the extent of the data set that is signed and the places of the two sequences in it
-pub record SelectOf (uid : List ℕ) (which : Signature) (d : List ℕ) (signed : Extent) (parameters signatures : Place) (r : Selection) : Type 0 where
-  pub says : (whole es : Elements) (n : ℕ) → elementsIn d signed ≡ read es n
+-- by the extents of the whole data set and of the one that is signed, and the places of the two sequences in the latter
+pub record SelectOf (uid : List ℕ) (which : Signature) (d : List ℕ) (whole signed : Extent) (parameters signatures : Place) (r : Selection) : Type 0 where
+  pub says : (es : Elements) (n : ℕ) → elementsIn d signed ≡ read es n
       → Placed d (elementOf macParametersSequence es) parameters → Placed d (elementOf digitalSignaturesSequence es) signatures
-      → SelectionAs d signed (selectIn uid which whole d es) r
+      → SelectionAs d signed (selectIn uid which (treeOf (elementsIn d whole)) d es) r

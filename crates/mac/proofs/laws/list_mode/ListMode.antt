@@ -23,6 +23,7 @@ use Rattle.stream.specs.Walk.{signedStream, WrittenAs}
 use Rattle.stream.proofs.laws.listed.ListedAnswers.{tags-end}
 use Rattle.stream.specs.Walk as walk
 use Rattle.stream.specs.declared.walk.SignatureItem.the-variants as signatureItem
+use Rattle.selection.specs.declared.select.Algorithm.{Algorithm}
 use Rattle.mac.specs.Result.{Streamed, CheckedAs}
 use Rattle.mac.specs.ListMode.{streamIn, answerTo15, measure, answer, result, streamCall, checkCall}
 use Rattle.mac.specs.Inner.Verdict.{CheckOf, lengthOf, lengthAnswer}
@@ -67,11 +68,11 @@ module _ (l d : List ℕ) where
     unfolding measure
     list-measured r e = measured-is (answerTo15 l d) (streamIn l d) l d x signatureItem.Absent answer-is stream-is r e
 
-    pub list-written : (given : ExpectedLength) (later : Answer) → later ≡ lengthAnswer given → (out : List ℕ) (r : Answer) (ys : List ℕ)
+    pub list-written : (of : Algorithm) (given : ExpectedLength) (later : Answer) → later ≡ lengthAnswer of given → (out : List ℕ) (r : Answer) (ys : List ℕ)
         → WrittenAs l d x signatureItem.Absent later out r ys → CallAnswered (listCall l d out) given limit out r ys
     unfolding answer
-    list-written given later q out r ys t =
-        call-written (answerTo15 l d) (streamIn l d) l d x signatureItem.Absent answer-is stream-is given limit out (omega arith) later q r ys t
+    list-written of given later q out r ys t =
+        call-written (answerTo15 l d) (streamIn l d) l d x signatureItem.Absent answer-is stream-is of given limit out (omega arith) later q r ys t
 
 -- ---- the calls
 pub list-streamed : (l d out after : List ℕ) (a : Answer) → CallAnswered (listCall l d out) (lengthOf Opt.none) limit out a after → AllFit d
@@ -79,5 +80,5 @@ pub list-streamed : (l d out after : List ℕ) (a : Answer) → CallAnswered (li
 list-streamed l d out after a = call-streamed (listCall l d out) d out after a
 
 pub list-checked : (l d expected work after : List ℕ) (a : Answer) → CallAnswered (listCall l d work) (lengthOf (some expected)) limit work a after
-    → (r : Checked) → CheckOf a expected after r → AllFit d → CheckedAs (result (checkCall l d expected work)) d work r after
-list-checked l d expected work after a s r = call-checked (listCall l d work) d expected work after a s r refl
+    → (of : Algorithm) (r : Checked) → CheckOf of a expected after r → AllFit d → CheckedAs (result (checkCall l d expected work)) d work r after
+list-checked l d expected work after a s of r = call-checked (listCall l d work) d expected work after a s of r refl

@@ -21,6 +21,8 @@ use Rattle.digest.specs.Message.{limit}
 use Rattle.selection.specs.Selection.{refusal, selected, select}
 use Rattle.selection.specs.Selection as mode
 use Rattle.selection.specs.Selected.{IsSelected, SelectionAs, SelectedBy, SelectedIn}
+use Rattle.selection.specs.declared.select.Algorithm.{Algorithm}
+use Rattle.selection.specs.declared.select.Algorithm.the-variants as algorithm
 use Rattle.selection.specs.declared.select.Selected.{Selected}
 use Rattle.selection.specs.declared.select.Selection.{Selection}
 use Rattle.selection.specs.declared.select.Selection.the-variants as selection
@@ -39,8 +41,10 @@ use Rattle.mac.specs.Inner.Verdict.{CheckOf, lengthOf, lengthAnswer}
 use Rattle.mac.specs.Inner.Calls.{signatureCall, CallAnswered, SelectionRefused, listIn, SelectionLies, SignatureSelected}
 use Rattle.mac.specs.declared.verdict.Checked.{Checked}
 use Rattle.mac.specs.declared.verdict.ExpectedLength.{ExpectedLength}
+use Rattle.mac.specs.declared.verdict.ExpectedLength.the-variants as expectedLength
+use Rattle.mac.specs.declared.verdict.Verdict.the-variants as verdict
 use Rattle.mac.proofs.laws.EitherCall.{call-refused, measured-is, call-written}
-use Rattle.mac.proofs.laws.verdict.VerdictOfChecks.{AllFit, call-streamed, call-checked}
+use Rattle.mac.proofs.laws.verdict.VerdictOfChecks.{AllFit, check-refused, call-streamed, call-room, call-checked}
 
 -- ---- what is selected, where the data set is read as p
 pub record Picked (uid : List ℕ) (which : Signature) (d : List ℕ) (x : Extent) (p : Reading Elements) (s : Selected) : Type 0 where
@@ -162,9 +166,18 @@ module _ (uid : List ℕ) (which : Signature) (d : List ℕ) (v : Selection) (t 
     unfolding measure
     refused-measured = refused-first a (answerTo15 uid which d) _ (is-refusal .answers) (is-refusal .number)
 
-    pub refused-call : (given : ExpectedLength) (out : List ℕ) → CallAnswered (signatureCall uid which d out) given limit out a out
+    refused-call : (given : ExpectedLength) (out : List ℕ) → CallAnswered (signatureCall uid which d out) given limit out a out
     unfolding answer
     refused-call given out = call-refused (answerTo15 uid which d) (streamIn uid which d) given limit out a (is-refusal .answers) (is-refusal .number)
+
+    pub refused-streamed : (out : List ℕ) → AllFit d → Streamed (result (streamCall uid which d out)) d out a out
+    refused-streamed out = call-streamed (signatureCall uid which d out) d out out a (refused-call (lengthOf Opt.none) out)
+
+    pub refused-checked : (expected work : List ℕ) → AllFit d
+        → CheckedAs (result (checkCall uid which d expected work)) d work (record { answer = a; verdict = verdict.Neither }) work
+    refused-checked expected work =
+        call-checked (signatureCall uid which d work) d expected work work a (refused-call (lengthOf (some expected)) work) algorithm.Sha256 _ refl
+        (check-refused algorithm.Sha256 a expected work (is-refusal .number))
 
   module _ (s : Selected) (e : v ≡ selection.Selected s) where
     is-selected : SelectionLies uid which d s
@@ -181,19 +194,31 @@ module _ (uid : List ℕ) (which : Signature) (d : List ℕ) (v : Selection) (t 
     selected-measured r q =
         measured-is (answerTo15 uid which d) (streamIn uid which d) (listIn d s) d (s .signed) (signatureItem.Item (s .item)) (is-selected .answers) (is-selected .stream-is) r q
 
-    pub selected-call : (given : ExpectedLength) (later : Answer) → later ≡ lengthAnswer given → (out : List ℕ) (r : Answer) (ys : List ℕ)
-        → WrittenAs (listIn d s) d (s .signed) (signatureItem.Item (s .item)) later out r ys → CallAnswered (signatureCall uid which d out) given limit out r ys
-    unfolding answer
-    selected-call given later q out r ys w =
-        let k = is-selected in
-        call-written (answerTo15 uid which d) (streamIn uid which d) (listIn d s) d (s .signed) (signatureItem.Item (s .item)) (k .answers) (k .stream-is) given limit out
-        (omega (arith, k .small)) later q r ys w
+    -- what is written, by the expected digest's length
+    module _ (given : ExpectedLength) (out : List ℕ) (a : Answer) (after : List ℕ)
+        (w : WrittenAs (listIn d s) d (s .signed) (signatureItem.Item (s .item)) (lengthAnswer (s .algorithm) given) out a after) where
+      selected-call : CallAnswered (signatureCall uid which d out) given limit out a after
+      unfolding answer
+      selected-call =
+          let k = is-selected in
+          call-written (answerTo15 uid which d) (streamIn uid which d) (listIn d s) d (s .signed) (signatureItem.Item (s .item)) (k .answers) (k .stream-is) (s .algorithm) given limit out
+          (omega (arith, k .small)) _ refl a after w
 
--- ---- the calls
-pub signature-streamed : (uid : List ℕ) (which : Signature) (d out after : List ℕ) (a : Answer) → CallAnswered (signatureCall uid which d out) (lengthOf Opt.none) limit out a after
-    → AllFit d → Streamed (result (streamCall uid which d out)) d out a after
-signature-streamed uid which d out after a = call-streamed (signatureCall uid which d out) d out after a
+      pub selected-room : length after ≡ length out → a .number ≡ 0 → a .length ≤ length after
+      selected-room = call-room (signatureCall uid which d out) given out after a selected-call
 
-pub signature-checked : (uid : List ℕ) (which : Signature) (d expected work after : List ℕ) (a : Answer) → CallAnswered (signatureCall uid which d work) (lengthOf (some expected)) limit work a after
-    → (r : Checked) → CheckOf a expected after r → AllFit d → CheckedAs (result (checkCall uid which d expected work)) d work r after
-signature-checked uid which d expected work after a s r = call-checked (signatureCall uid which d work) d expected work after a s r refl
+    pub selected-streamed : (out : List ℕ) (a : Answer) (after : List ℕ)
+        → WrittenAs (listIn d s) d (s .signed) (signatureItem.Item (s .item)) (lengthAnswer (s .algorithm) expectedLength.Absent) out a after → AllFit d
+        → Streamed (result (streamCall uid which d out)) d out a after
+    selected-streamed out a after w = call-streamed (signatureCall uid which d out) d out after a (selected-call expectedLength.Absent out a after w)
+
+    pub selected-checked : (expected work : List ℕ) (a : Answer) (after : List ℕ)
+        → WrittenAs (listIn d s) d (s .signed) (signatureItem.Item (s .item)) (lengthAnswer (s .algorithm) (expectedLength.Length (length expected))) work a after
+        → (r : Checked) → CheckOf (s .algorithm) a expected after r → AllFit d → CheckedAs (result (checkCall uid which d expected work)) d work r after
+    selected-checked expected work a after w r =
+        call-checked (signatureCall uid which d work) d expected work after a (selected-call (expectedLength.Length (length expected)) work a after w) (s .algorithm) r refl
+
+-- ---- `write_selected`
+pub selected-written : (l d : List ℕ) (x : Extent) (item : SignatureItem) (of : Algorithm) (given : ExpectedLength) (later : Answer) → later ≡ lengthAnswer of given
+    → (out : List ℕ) (r : Answer) (ys : List ℕ) → WrittenAs l d x item later out r ys → WrittenAs l d x item (lengthAnswer of given) out r ys
+selected-written l d x item of given later q out r ys w = rw q at w

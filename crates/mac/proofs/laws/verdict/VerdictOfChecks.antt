@@ -21,7 +21,9 @@ use Rattle.stream.specs.Walk.{leftIn}
 use Rattle.digest.specs.declared.message.Hashed.{Hashed}
 use Rattle.mac.specs.Result.{Result, outputAfter, same, differs, verdictCode, compared, verdictOf, Streamed, CheckedAs}
 use Rattle.slices.specs.Lists.{sameBytes}
-use Rattle.mac.specs.Inner.Verdict.{CheckOf, lengthOf, lengthAnswer}
+use Rattle.selection.specs.declared.select.Algorithm.{Algorithm}
+use Rattle.selection.specs.declared.select.Algorithm.the-variants as algorithm
+use Rattle.mac.specs.Inner.Verdict.{CheckOf, standard, digestLength, lengthOf, lengthAnswer}
 use Rattle.mac.specs.Inner.Calls.{CallAnswered}
 use Rattle.mac.specs.declared.verdict.Verdict.{Verdict}
 use Rattle.mac.specs.declared.verdict.Verdict.the-variants as verdict
@@ -29,19 +31,26 @@ use Rattle.mac.specs.declared.verdict.Checked.{Checked}
 use Rattle.mac.specs.declared.verdict.ExpectedLength.{ExpectedLength}
 use Rattle.mac.specs.declared.verdict.ExpectedLength.the-variants as expectedLength
 
+-- ---- the algorithm, of which there is one
+pub sha256-length : (of : Algorithm) → 32 ≡ digestLength of
+sha256-length algorithm.Sha256 = refl
+
+pub sha256-digest : (of : Algorithm) (m : List ℕ) (g : Hashed) → g ≡ hashing sha256 m → g ≡ hashing (standard of) m
+sha256-digest algorithm.Sha256 m g q = q
+
 -- ---- 9
-module _ (e : ExpectedLength) (a : Answer) where
-  pub length-none : e ≡ expectedLength.Absent → a ≡ accepted 0 → a ≡ lengthAnswer e
+module _ (of : Algorithm) (e : ExpectedLength) (a : Answer) where
+  pub length-none : e ≡ expectedLength.Absent → a ≡ accepted 0 → a ≡ lengthAnswer of e
   length-none q k = k ∙ rw q
 
-  module _ (n : ℕ) (q : e ≡ expectedLength.Length n) where
-    pub length-wrong : (n ≡ 32 → ⊥) → a ≡ refused 9 0 → a ≡ lengthAnswer e
+  module _ (n right : ℕ) (q : e ≡ expectedLength.Length n) (w : right ≡ digestLength of) where
+    pub length-wrong : (n ≡ right → ⊥) → a ≡ refused 9 0 → a ≡ lengthAnswer of e
     unfolding if_then_else_
-    length-wrong h k = k ∙ rw (q, ne-eqb n 32 h)
+    length-wrong h k = k ∙ rw (q, ← w, ne-eqb n right h)
 
-    pub length-right : n ≡ 32 → a ≡ accepted 0 → a ≡ lengthAnswer e
+    pub length-right : n ≡ right → a ≡ accepted 0 → a ≡ lengthAnswer of e
     unfolding if_then_else_
-    length-right h k = k ∙ rw (q, eq-eqb n 32 h)
+    length-right h k = k ∙ rw (q, ← w, eq-eqb n right h)
 
 -- ---- the verdict
 module _ (digest expected : List ℕ) (b : Bool) (e : b ≡ sameBytes digest expected) where
@@ -54,16 +63,16 @@ module _ (digest expected : List ℕ) (b : Bool) (e : b ≡ sameBytes digest exp
   says-differs t = rw (← e, t)
 
 -- ---- a check, by the answer of its stream
-hashes : (m : List ℕ) → length m ≤ limit → hashing sha256 m .digest ≡ digestOf sha256 m
+hashes : (of : Algorithm) (m : List ℕ) → length m ≤ limit → hashing (standard of) m .digest ≡ digestOf sha256 m
 unfolding hashing if_then_else_
-hashes m h = rw (le-leb (length m) limit h)
+hashes algorithm.Sha256 m h = rw (le-leb (length m) limit h)
 
-module _ (a : Answer) (expected work : List ℕ) where
-  pub check-refused : (a .number ≡ 0 → ⊥) → CheckOf a expected work (record { answer = a; verdict = verdict.Neither })
+module _ (of : Algorithm) (a : Answer) (expected work : List ℕ) where
+  pub check-refused : (a .number ≡ 0 → ⊥) → CheckOf of a expected work (record { answer = a; verdict = verdict.Neither })
   check-refused h = record { answers = refl; refused = λ k. refl; says = λ z. absurd (h z) }
 
-  pub check-said : (g : Hashed) (v : Verdict) → a .number ≡ 0 → g ≡ hashing sha256 (take (a .length) work) → verdictCode v ≡ compared (some expected) (g .digest)
-      → CheckOf a expected work (record { answer = a; verdict = v })
+  pub check-said : (g : Hashed) (v : Verdict) → a .number ≡ 0 → g ≡ hashing (standard of) (take (a .length) work) → verdictCode v ≡ compared (some expected) (g .digest)
+      → CheckOf of a expected work (record { answer = a; verdict = v })
   check-said g v h q w = record { answers = refl; refused = λ k. absurd (k h); says = λ z. w ∙ ap (λ (x : Hashed). compared (some expected) (x .digest)) q }
 
 pub check-count : (a : Answer) (work : List ℕ) → (a .number ≡ 0 → a .length ≤ length work) → a .number ≡ 0 → a .length ≡ length (take (a .length) work)
@@ -93,9 +102,9 @@ module _ (call : Option (List ℕ) → Result) (d expected work after : List ℕ
       let y : after ≡ b ++ drop (length b) work = t .output ∙ rw (← t .answers, eq-eqb (a .number) 0 h) in
       rw y (take-at b (drop (length b) work) (a .length) (sym (s .long (some expected) h)))
 
-  pub call-checked : (r : Checked) → call (some expected) .expected ≡ some expected → CheckOf a expected after r → AllFit d → CheckedAs (call (some expected)) d work r after
+  pub call-checked : (of : Algorithm) (r : Checked) → call (some expected) .expected ≡ some expected → CheckOf of a expected after r → AllFit d → CheckedAs (call (some expected)) d work r after
   unfolding verdictOf if_then_else_
-  call-checked r e k b =
+  call-checked of r e k b =
       let t = s .streamed (some expected) refl in
       record { answers = k .answers ∙ t .answers; says = go (eqb (a .number) 0) refl; output = t .output; bytes = λ i. b i .fits }
     where
@@ -104,5 +113,5 @@ module _ (call : Option (List ℕ) → Result) (d expected work after : List ℕ
           let z = eqb-true (a .number) 0 q in
           let b = call (some expected) .stream in
           let m : length b ≤ limit = omega (arith, s .long (some expected) z, s .short z) in
-          k .says z ∙ rw (digested z, hashes b m, e, ← s .streamed (some expected) refl .answers, q)
+          k .says z ∙ rw (digested z, hashes of b m, e, ← s .streamed (some expected) refl .answers, q)
       go false q = k .refused (eqb-false (a .number) 0 q) ∙ rw (← s .streamed (some expected) refl .answers, q)

@@ -7,11 +7,11 @@ use Rattle.mac.proofs.verdict.check_of.Tie as tie
 returns : tie.Need-returns
 returns c = search steps.check-refused
 
-slice-aggregate-sha256 : tie.Need-slice-aggregate-sha256
-slice-aggregate-sha256 c = search (steps.check-count, needs)
+slice-aggregate-digest-by : tie.Need-slice-aggregate-digest-by
+slice-aggregate-digest-by c = search (steps.check-count, needs)
 
-sha256-requires : tie.Need-sha256-requires
-sha256-requires c κs = search needs
+digest-by-requires : tie.Need-digest-by-requires
+digest-by-requires c κs = search needs
 
 slice-aggregate-verdict-of : tie.Need-slice-aggregate-verdict-of
 slice-aggregate-verdict-of c = search needs
@@ -27,8 +27,8 @@ check-of-spec =
     tie.close
     (tie.spec
     returns
-    slice-aggregate-sha256
-    sha256-requires
+    slice-aggregate-digest-by
+    digest-by-requires
     slice-aggregate-verdict-of
     verdict-of-requires
     returns-2)

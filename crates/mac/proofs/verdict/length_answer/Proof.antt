@@ -16,6 +16,9 @@ accepted-requires c κs = search needs
 returns : tie.Need-returns
 returns c = search steps.length-none
 
+digest-length-requires : tie.Need-digest-length-requires
+digest-length-requires c κs = search needs
+
 refused-requires : tie.Need-refused-requires
 refused-requires c κs = search needs
 
@@ -36,6 +39,7 @@ length-answer-spec =
     enum-told
     accepted-requires
     returns
+    digest-length-requires
     refused-requires
     returns-2
     accepted-requires-2

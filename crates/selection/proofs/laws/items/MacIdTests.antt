@@ -16,13 +16,11 @@ use Rattle.selection.specs.Selection.{valueOf, twoBytes, macIdOf}
 use Rattle.dataset.specs.Tags.{macIdNumber}
 use Rattle.dataset.specs.Place.{Placed}
 use Rattle.dataset.specs.Inner.Place.{PlaceLies}
-use Rattle.selection.specs.Inner.Selection.{KeyLies, keyOf, SameMacId, TestsKey}
+use Rattle.selection.specs.Inner.Selection.{KeyLies, SameMacId, TestsKey}
 use Rattle.dataset.specs.declared.seek.Place.{Place}
 use Rattle.dataset.specs.declared.seek.Place.the-variants as place
 use Rattle.selection.specs.declared.items.ItemKey.{ItemKey}
 use Rattle.selection.specs.declared.items.ItemKey.the-variants as key
-use Rattle.selection.specs.declared.select.Signature.{Signature}
-use Rattle.selection.specs.declared.select.Signature.the-variants as signature
 use Rattle.slices.proofs.laws.Parts.{length-between}
 use Rattle.selection.proofs.laws.PlaceValues.{value-order, value-inside, value-at}
 
@@ -62,14 +60,3 @@ module _ (d : List ℕ) (w : ItemKey) (index : ℕ) (id : Place) where
     pub key-id : (r : Bool) → SameMacId d id start end r → TestsKey d w index id r
     unfolding macIdOf
     key-id r h es q = rw e (h .says (elementOf macIdNumber es) q)
-
--- the signature item's
-pub key-given : (which : Signature) (number : ℕ) → which ≡ signature.Number number → key.Number number ≡ keyOf which
-key-given which number e = rw e
-
-pub signature-key : (d : List ℕ) (which : Signature) (w : ItemKey) → w ≡ keyOf which → KeyLies d w
-signature-key d which w e = rw e (by which)
-  where
-    by : (which : Signature) → KeyLies d (keyOf which)
-    by signature.Unnamed = tt
-    by (signature.Number number) = tt

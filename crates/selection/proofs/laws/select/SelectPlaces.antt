@@ -12,22 +12,21 @@ use Rattle.slices.specs.If.{if_then_else_}
 use Rattle.answer.specs.Answer.{refused}
 use Rattle.slices.specs.Lists.{between}
 use Rattle.dataset.specs.Vr.{US}
-use Rattle.dataset.specs.Tree.{Elements}
+use Rattle.dataset.specs.Tree.{Elements, Items}
 use Rattle.dataset.specs.Reading.{Reading, fault, read, treeOf}
 use Rattle.dataset.specs.Lookup.{elementOf}
-use Rattle.selection.specs.Selection.{itemsOf, itemWhere, macIdOf, signatureItem, parametersItem, need, parametersSelect, selectIn}
+use Rattle.selection.specs.Selection.{itemsOf, macIdOf, signatureItem, parametersItem, need, parametersSelect, selectIn}
 use Rattle.dataset.specs.Tags.{macIdNumber, dataElementsSigned, macParametersSequence, digitalSignaturesSequence}
 use Rattle.dataset.specs.Extent.{elementsIn}
 use Rattle.dataset.specs.Place.{Lies, Placed, SoughtIn}
 use Rattle.dataset.specs.Inner.Place.{PlaceLies, Located}
-use Rattle.selection.specs.Inner.Selection.{hasKey, keyOf, FoundItemAs, FoundItemUnder, ParametersSelected, SelectOf}
+use Rattle.selection.specs.Inner.Selection.{firstWith, chosenBy, FoundItemAs, FoundItemUnder, ParametersSelected, SelectOf}
 use Rattle.selection.specs.Selected.{SelectedBy, SelectedIn}
 use Rattle.dataset.specs.declared.extent.Extent.{Extent}
 use Rattle.dataset.specs.declared.seek.Place.{Place}
 use Rattle.dataset.specs.declared.seek.Place.the-variants as place
 use Rattle.dataset.specs.declared.seek.Sought.{Sought}
 use Rattle.dataset.specs.declared.seek.Sought.the-variants as sought
-use Rattle.selection.specs.declared.items.ItemKey.{ItemKey}
 use Rattle.selection.specs.declared.items.ItemKey.the-variants as key
 use Rattle.selection.specs.declared.items.FoundItem.{FoundItem}
 use Rattle.selection.specs.declared.items.FoundItem.the-variants as found
@@ -71,9 +70,9 @@ module _ (d : List ℕ) (r : FoundItem) where
         placed′ = rw e at (k .placed′);
       }
 
-module _ (d : List ℕ) (p : Place) (s : Located d p) (w : ItemKey) (r : FoundItem) (g : FoundItemUnder d p w r) (inside : Extent) (id list : Place) (is : r ≡ found.Item inside id list) where
-  item : Picked d (itemWhere (hasKey d w) (itemsOf (s .element))) inside id list
-  item = picked d r (itemWhere (hasKey d w) (itemsOf (s .element))) inside id list (g .says (s .element) (s .placed)) is
+module _ (d : List ℕ) (p : Place) (s : Located d p) (choose : Option Items → Option Elements) (r : FoundItem) (g : FoundItemUnder d p choose r) (inside : Extent) (id list : Place) (is : r ≡ found.Item inside id list) where
+  item : Picked d (choose (itemsOf (s .element))) inside id list
+  item = picked d r (choose (itemsOf (s .element))) inside id list (g .says (s .element) (s .placed)) is
 
   pub item-lies : Lies d inside
   item-lies = item .lies
@@ -91,35 +90,38 @@ module _ (d : List ℕ) (p : Place) (s : Located d p) (w : ItemKey) (r : FoundIt
   pub item-list : PlaceLies d list
   item-list = place-lies d list (record { element = elementOf dataElementsSigned (item .elements); placed = item .placed′ })
 
--- ---- 18 to 23
+-- ---- the signature item
+module _ (d : List ℕ) (which : Signature) (p : Place) (f : FoundItem) where
+  pub none-chosen : which ≡ signature.Unnamed → FoundItemUnder d p (firstWith d (key.Number 0)) f → FoundItemUnder d p (chosenBy which) f
+  none-chosen e g = record { says = λ o q. rw e (g .says o q) }
 
--- the signature item is found by its key
-by-choice : (d : List ℕ) (which : Signature) (es : Elements) → itemWhere (hasKey d (keyOf which)) (itemsOf (elementOf digitalSignaturesSequence es)) ≡ signatureItem which es
+  pub number-chosen : (number : ℕ) → which ≡ signature.Number number → FoundItemUnder d p (firstWith d (key.Number number)) f → FoundItemUnder d p (chosenBy which) f
+  number-chosen number e g = record { says = λ o q. rw e (g .says o q) }
+
+chosen-is : (which : Signature) (es : Elements) → chosenBy which (itemsOf (elementOf digitalSignaturesSequence es)) ≡ signatureItem which es
 unfolding signatureItem
-by-choice d signature.Unnamed es = refl
-by-choice d (signature.Number number) es = refl
+chosen-is signature.Unnamed es = refl
+chosen-is (signature.Number number) es = refl
 
-module _ (uid : List ℕ) (which : Signature) (d : List ℕ) (x : Extent) (parameters signatures : Place) (chosen : ItemKey) (ch : chosen ≡ keyOf which) (f : FoundItem)
-    (g : FoundItemUnder d signatures chosen f) where
+-- ---- 18 to 23
+module _ (uid : List ℕ) (which : Signature) (d : List ℕ) (whole x : Extent) (parameters signatures : Place) (f : FoundItem) (g : FoundItemUnder d signatures (chosenBy which) f) where
   module _ (es : Elements) (q : Placed d (elementOf digitalSignaturesSequence es) signatures) where
     first : FoundItemAs d (signatureItem which es) f
-    first =
-        let a : FoundItemAs d (itemWhere (hasKey d (keyOf which)) (itemsOf (elementOf digitalSignaturesSequence es))) f = rw ch at (g .says (elementOf digitalSignaturesSequence es) q) in
-        rw (by-choice d which es) at a
+    first = rw (chosen-is which es) at (g .says (elementOf digitalSignaturesSequence es) q)
 
-  pub select-none : (r : Selection) → f ≡ found.Absent → r ≡ selection.Refused (refused 18 0) → SelectOf uid which d x parameters signatures r
+  pub select-none : (r : Selection) → f ≡ found.Absent → r ≡ selection.Refused (refused 18 0) → SelectOf uid which d whole x parameters signatures r
   unfolding selectIn
-  select-none r is w = record { says = λ whole es n u p q. rw (picked-none d f (signatureItem which es) (first es q) is) w }
+  select-none r is w = record { says = λ es n u p q. rw (picked-none d f (signatureItem which es) (first es q) is) w }
 
   module _ (extent : Extent) (id list : Place) (is : f ≡ found.Item extent id list) where
     module _ (es : Elements) (q : Placed d (elementOf digitalSignaturesSequence es) signatures) where
       item-of : Picked d (signatureItem which es) extent id list
       item-of = picked d f (signatureItem which es) extent id list (first es q) is
 
-    pub select-no-value : (r : Selection) → NoValue id → r ≡ selection.Refused (refused 19 0) → SelectOf uid which d x parameters signatures r
+    pub select-no-value : (r : Selection) → NoValue id → r ≡ selection.Refused (refused 19 0) → SelectOf uid which d whole x parameters signatures r
     unfolding selectIn macIdOf
     select-no-value r v w = record {
-      says = λ whole es n u p q. let s = item-of es q in rw (s .same, no-value d id US (elementOf macIdNumber (s .elements)) v (s .placed)) w;
+      says = λ es n u p q. let s = item-of es q in rw (s .same, no-value d id US (elementOf macIdNumber (s .elements)) v (s .placed)) w;
     }
 
     module _ (vr start end : ℕ) (k : id ≡ place.Value vr start end) (b : Bool) (e : b ≡ (eqb vr US && eqb (end - start) 2)) where
@@ -131,32 +133,32 @@ module _ (uid : List ℕ) (which : Signature) (d : List ℕ) (x : Extent) (param
         unfolding macIdOf
         number-of = let s = item-of es q in two-bytes d id vr start end k lies b e (elementOf macIdNumber (s .elements)) (s .placed)
 
-      pub select-other : (r : Selection) → b ≡ false → r ≡ selection.Refused (refused 19 0) → SelectOf uid which d x parameters signatures r
+      pub select-other : (r : Selection) → b ≡ false → r ≡ selection.Refused (refused 19 0) → SelectOf uid which d whole x parameters signatures r
       unfolding selectIn if_then_else_
-      select-other r t w = record { says = λ whole es n u p q. rw (item-of es q .same, number-of es q, t) w }
+      select-other r t w = record { says = λ es n u p q. rw (item-of es q .same, number-of es q, t) w }
 
-      module _ (t : b ≡ true) (c : FoundItem) (h : FoundItemUnder d parameters (key.MacId start end) c) where
+      module _ (t : b ≡ true) (c : FoundItem) (h : FoundItemUnder d parameters (firstWith d (key.MacId start end)) c) where
         -- what is left of the selection: 20 to 23
-        on : (whole es : Elements) (q : Placed d (elementOf digitalSignaturesSequence es) signatures)
-            → selectIn uid which whole d es ≡ need 20 (parametersItem (between d start end) es d) (λ ps. parametersSelect uid d es (item-of es q .elements) ps)
+        on : (all es : Elements) (q : Placed d (elementOf digitalSignaturesSequence es) signatures)
+            → selectIn uid which all d es ≡ need 20 (parametersItem (between d start end) es d) (λ ps. parametersSelect uid d es (item-of es q .elements) ps)
         unfolding selectIn if_then_else_
-        on whole es q = rw (item-of es q .same, number-of es q, t)
+        on all es q = rw (item-of es q .same, number-of es q, t)
 
         second : (es : Elements) → Placed d (elementOf macParametersSequence es) parameters → FoundItemAs d (parametersItem (between d start end) es d) c
         unfolding parametersItem
         second es p = h .says (elementOf macParametersSequence es) p
 
-        pub select-no-parameters : (r : Selection) → c ≡ found.Absent → r ≡ selection.Refused (refused 20 0) → SelectOf uid which d x parameters signatures r
+        pub select-no-parameters : (r : Selection) → c ≡ found.Absent → r ≡ selection.Refused (refused 20 0) → SelectOf uid which d whole x parameters signatures r
         select-no-parameters r j w =
-            record { says = λ whole es n u p q. rw (on whole es q, picked-none d c (parametersItem (between d start end) es d) (second es p) j) w }
+            record { says = λ es n u p q. rw (on (treeOf (elementsIn d whole)) es q, picked-none d c (parametersItem (between d start end) es d) (second es p) j) w }
 
         pub select-list : (inside : Extent) (other listed : Place) (r : Selection) → c ≡ found.Item inside other listed → ParametersSelected uid d x extent inside listed r
-            → SelectOf uid which d x parameters signatures r
+            → SelectOf uid which d whole x parameters signatures r
         select-list inside other listed r j w = record {
-          says = λ whole es n u p q.
+          says = λ es n u p q.
               let s = item-of es q in
               let z = picked d c (parametersItem (between d start end) es d) inside other listed (second es p) j in
-              rw (on whole es q, z .same) (w .says es (s .elements) (z .elements) n (s .next) (z .next) u (s .reads) (z .reads) (z .placed′));
+              rw (on (treeOf (elementsIn d whole)) es q, z .same) (w .says es (s .elements) (z .elements) n (s .next) (z .next) u (s .reads) (z .reads) (z .placed′));
         }
 
 -- ---- in an extent of an instance, which is `whole`
@@ -168,11 +170,11 @@ module _ (uid : List ℕ) (which : Signature) (d : List ℕ) (whole x : Extent) 
       by-reading (fault b) k = cc
       by-reading (read es n) k = never (cc (k .is))
 
-  pub select-rest : (first second : Place) (next : ℕ) (r : Selection) → f ≡ sought.Past first second next → SelectOf uid which d x first second r
+  pub select-rest : (first second : Place) (next : ℕ) (r : Selection) → f ≡ sought.Past first second next → SelectOf uid which d whole x first second r
       → SelectedIn uid which d whole x r
   select-rest first second next r is g = by-reading (elementsIn d x) refl s
     where
       by-reading : (z : Reading Elements) → elementsIn d x ≡ z → SoughtIn d macParametersSequence digitalSignaturesSequence z f → SelectedBy uid which d (treeOf (elementsIn d whole)) x z r
       by-reading (fault b) e k = never (cc)
       by-reading (read es n) e k =
-          g .says (treeOf (elementsIn d whole)) es n e (placed-first d _ _ es n f k first second next is) (placed-second d _ _ es n f k first second next is)
+          g .says es n e (placed-first d _ _ es n f k first second next is) (placed-second d _ _ es n f k first second next is)

@@ -1,17 +1,13 @@
 -- `select_from` meets its contract: each place by its law in SelectPlaces. Assumes nothing.
 use Rattle.selection.proofs.laws.PlaceValues as places
-use Rattle.selection.proofs.laws.items.MacIdTests as tests
 use Rattle.selection.proofs.laws.select.SelectPlaces as steps
 use borrow.Author.Tests.{not-true, not-false}
 use borrow.Author.Needs.{needs}
 use Rattle.selection.proofs.select.select_from.Statement.{statement}
 use Rattle.selection.proofs.select.select_from.Tie as tie
 
-key-of-requires : tie.Need-key-of-requires
-key-of-requires c κs = search needs
-
-find-item-under-requires : tie.Need-find-item-under-requires
-find-item-under-requires c κs = search (places.place-lies, tests.signature-key)
+signature-item-requires : tie.Need-signature-item-requires
+signature-item-requires c κs = search needs
 
 enum-known-signature : tie.Need-enum-known-signature
 enum-known-signature c = search needs
@@ -43,8 +39,8 @@ refused-requires-3 c κs = search needs
 returns-3 : tie.Need-returns-3
 returns-3 c = search (steps.select-other, not-true)
 
-find-item-under-requires-2 : tie.Need-find-item-under-requires-2
-find-item-under-requires-2 c κs = search (places.place-lies, steps.id-order, steps.id-inside)
+find-item-under-requires : tie.Need-find-item-under-requires
+find-item-under-requires c κs = search (places.place-lies, steps.id-order, steps.id-inside)
 
 enum-known-found : tie.Need-enum-known-found
 enum-known-found c = search needs
@@ -68,8 +64,7 @@ pub select-from-spec : {M : Type 1} → statement M
 select-from-spec =
     tie.close
     (tie.spec
-    key-of-requires
-    find-item-under-requires
+    signature-item-requires
     enum-known-signature
     enum-told
     refused-requires
@@ -80,7 +75,7 @@ select-from-spec =
     is-mac-id-requires
     refused-requires-3
     returns-3
-    find-item-under-requires-2
+    find-item-under-requires
     enum-known-found
     enum-told-2
     refused-requires-4
