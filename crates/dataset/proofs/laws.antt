@@ -1,4 +1,3 @@
-pub mod Bools
 pub mod extent
 pub mod header
 pub mod lookup

@@ -1,4 +1,3 @@
-pub mod Tables
 pub mod padding
 pub mod running
 pub mod sha256

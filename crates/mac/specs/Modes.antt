@@ -13,14 +13,10 @@ use Rattle.answer.specs.declared.Answer.{Answer}
 use Rattle.answer.specs.Answer.{accepted, refused, _orElse_}
 use Rattle.stream.specs.Walk.{answerFrom16}
 
--- 9: "in a check only: the expected digest is not 32 bytes long" (9.3)
-abbrev pub notDigestLength : (bytes : ℕ) → Bool
-notDigestLength bytes = not (eqb bytes 32)
-
--- a call for the stream has no expected digest
+-- 9: "in a check only: the expected digest is not 32 bytes long" (9.3); a call for the stream has none
 abbrev pub badDigestLength : Option (List ℕ) → Bool
 badDigestLength Opt.none = false
-badDigestLength (some e) = notDigestLength (length e)
+badDigestLength (some e) = not (eqb (length e) 32)
 
 -- "then 9, 16", alike in both modes (9.4, 9.5): by the stream, the output room and the expected digest
 unfoldable pub answerFrom9 : (stream : List ℕ) (room : ℕ) (expected : Option (List ℕ)) → Answer

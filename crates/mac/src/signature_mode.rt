@@ -15,12 +15,9 @@ use stream::walk::SignatureItem;
 ghost use mathlib.Core.Path.{_≡_};
 ghost use Prim.Native.Nat.{_≤_};
 ghost use lib.ListN.{length};
-ghost use Rattle.stream.specs.Walk.{WrittenAs};
-ghost use Rattle.stream.specs.declared.walk.SignatureItem.the-variants as signatureItem;
 ghost use Rattle.mac.specs.Result.{Streamed, CheckedAs};
 ghost use Rattle.mac.specs.SignatureMode.{measure, streamCall, checkCall, result};
-ghost use Rattle.mac.specs.Inner.Verdict.{lengthAnswer};
-ghost use Rattle.mac.specs.Inner.Calls.{SignatureSelected, listIn};
+ghost use Rattle.mac.specs.Inner.Calls.{SignatureSelected, SelectedWritten};
 
 // What is selected in a whole data set; or 1 to 8, 18 to 23.
 fn select_whole(uid: &[u8], which: Signature, d: &[u8]) -> Selection
@@ -54,7 +51,7 @@ pub fn signature_measure(uid: &[u8], which: Signature, d: &[u8]) -> Answer
 // Writes the stream of what is selected, with 9 by the length of the expected digest.
 fn write_selected(d: &[u8], selected: Selected, expected: ExpectedLength, out: &mut [u8]) -> Answer
     requires { ⌜ (selected .start ≤ selected .end) × (selected .end ≤ length (now d)) ⌝ }
-    ensures { λ r. ⌜ WrittenAs (listIn (now (d .entry)) selected) (now (d .entry)) (selected .signed) (signatureItem.Item (selected .item)) (lengthAnswer (selected .algorithm) expected) (now (out .entry)) r (now (out .exit)) ⌝ }
+    ensures { λ r. ⌜ SelectedWritten (now (d .entry)) selected expected (now (out .entry)) r (now (out .exit)) ⌝ }
 {
     let start = selected.start;
     let end = selected.end;

@@ -13,7 +13,7 @@ use Rattle.answer.specs.Answer.{refused, _orElse_}
 use Rattle.answer.proofs.laws.OrElse.{or-else-first, or-else-same, or-else-assoc}
 use Rattle.dataset.specs.Tree.{Element, Elements, Items, tagOf}
 use Rattle.dataset.specs.Reading.{sizeAnswer, dataSet, answerOf, tree}
-use Rattle.dataset.proofs.laws.Bools.{neither}
+use Rattle.slices.proofs.laws.Bools.{neither}
 use Rattle.stream.specs.TagList.{barred, unlessBarred, tagsIn, listAnswer}
 use Rattle.stream.specs.Content.{SignedElement, SignedElements, signed, signedElements, signedItems, joined, content}
 use Rattle.stream.specs.UN.{isUN, holdsUN, elementsHoldUN, itemsHoldUN}

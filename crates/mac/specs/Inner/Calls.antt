@@ -16,7 +16,7 @@ use Rattle.stream.specs.declared.walk.SignatureItem.the-variants as signatureIt
 use Rattle.mac.specs.Result.{Result, outputAfter}
 use Rattle.mac.specs.ListMode as listMode
 use Rattle.mac.specs.SignatureMode as signatureMode
-use Rattle.mac.specs.Inner.Verdict.{lengthOf}
+use Rattle.mac.specs.Inner.Verdict.{lengthOf, lengthAnswer}
 use Rattle.mac.specs.declared.verdict.ExpectedLength.{ExpectedLength}
 
 -- ---- a call, by its expected digest: what is answered, r, and left in the output
@@ -55,6 +55,10 @@ pub record SelectionLies (uid : List ℕ) (which : Signature) (d : List ℕ) (s 
   pub small : length d ≤ sizeLimit
   pub answers : signatureMode.answerTo15 uid which d ≡ walk.answerTo15 (listIn d s) d (s .signed) (signatureItem.Item (s .item))
   pub stream-is : signatureMode.streamIn uid which d ≡ walk.streamIn (listIn d s) d (s .signed) (signatureItem.Item (s .item))
+
+-- the stream of what is selected is written; 9 by the length of the expected digest
+abbrev pub SelectedWritten : (d : List ℕ) (s : Selected) (given : ExpectedLength) (out : List ℕ) (r : Answer) (after : List ℕ) → Type 0
+SelectedWritten d s given out r after = walk.WrittenAs (listIn d s) d (s .signed) (signatureItem.Item (s .item)) (lengthAnswer (s .algorithm) given) out r after
 
 abbrev pub SignatureSelected : (uid : List ℕ) (which : Signature) (d : List ℕ) → Selection → Type 0
 SignatureSelected uid which d (selection.Refused f) = SelectionRefused uid which d f

@@ -27,7 +27,7 @@ abbrev pub standard : Algorithm → digest.Algorithm
 standard algorithm.Sha256 = sha256
 
 abbrev pub digestLength : Algorithm → ℕ
-digestLength algorithm.Sha256 = 32
+digestLength a = standard a .size
 
 -- ---- a check
 

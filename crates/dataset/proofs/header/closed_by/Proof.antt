@@ -7,7 +7,7 @@ use lib.Dec.{eqb}
 use borrow.Author.Needs.{needs}
 use Rattle.dataset.specs.Bytes.{tagAt, num32}
 use Rattle.dataset.specs.Header.{closedBy}
-use Rattle.dataset.proofs.laws.Bools.{not-true, not-false}
+use Rattle.slices.proofs.laws.Bools.{not-true, not-false}
 use Rattle.dataset.proofs.header.closed_by.Statement.{statement}
 use Rattle.dataset.proofs.header.closed_by.Tie as tie
 

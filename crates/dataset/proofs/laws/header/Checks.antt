@@ -12,7 +12,7 @@ use Rattle.slices.specs.If.{if_then_else_}
 use Rattle.dataset.specs.Header.{ElementHeader, ItemHeader, outside, longAt, byForm, vrOnAt, valueBy, itemBy}
 use Rattle.dataset.specs.Bytes.{num16, num32, tagAt, vrAt}
 use Rattle.dataset.specs.Vr.{formOf}
-use Rattle.dataset.proofs.laws.Bools.{neither}
+use Rattle.slices.proofs.laws.Bools.{neither}
 use Rattle.dataset.specs.declared.vr.Form.{Form}
 use Rattle.dataset.specs.declared.vr.Form.the-variants.{Short, Long, Neither}
 

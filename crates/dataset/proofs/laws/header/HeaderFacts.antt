@@ -17,7 +17,7 @@ use Rattle.dataset.specs.Tags.{itemTag, itemDelimitationItem, sequenceDe
 use Rattle.dataset.specs.Order.{Tagged, Sized, ValueAt, NestAt, HeaderExtent, EndsIn}
 use Rattle.dataset.specs.declared.vr.Form.{Form}
 use Rattle.dataset.specs.declared.vr.Form.the-variants.{Short, Long, Neither}
-use Rattle.dataset.proofs.laws.Bools.{choose, and-right, both, neither, not-false, not-true}
+use Rattle.slices.proofs.laws.Bools.{choose, and-right, both, neither, not-false, not-true}
 
 -- a refusal that a header at `at` gives
 abbrev pub RefusedAt : (at number position : ℕ) → Type 0

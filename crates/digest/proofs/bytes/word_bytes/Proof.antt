@@ -5,7 +5,7 @@ use lib.Seq.{take-all}
 use lib.ListN.{take}
 use Rattle.slices.specs.Lists.{at, tabulate}
 use Rattle.digest.specs.Padding.{bigEndian, byteOf, wordBytes}
-use Rattle.digest.proofs.laws.Tables.{tabulate-next}
+use Rattle.slices.proofs.laws.Tables.{tabulate-next}
 use borrow.Author.Needs.{needs}
 use Prim.Native.Nat.{_-_, _≤_}
 use lib.ListN.{length}

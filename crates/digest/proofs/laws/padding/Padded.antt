@@ -13,7 +13,7 @@ use Rattle.slices.specs.If.{if_then_else_}
 use Rattle.slices.proofs.laws.Writing.{sets-append}
 use Rattle.digest.specs.Padding.{ByteOrder, bytesOf, zerosAfter, padding}
 use Rattle.digest.specs.Theorems.{FewestZeros}
-use Rattle.digest.proofs.laws.Tables.{length-tabulate}
+use Rattle.slices.proofs.laws.Tables.{length-tabulate}
 use Rattle.digest.proofs.laws.running.Zeros.{drop-replicate, take-replicate}
 
 -- w, then the byte x, then zeros, then the eight bytes of `bits`, n bytes in all: the stores that make it

@@ -11,7 +11,7 @@ use lib.Seq.{getD-take}
 use Rattle.slices.specs.Lists.{at}
 use Rattle.digest.specs.Sha256.{constants, nextWord, extended, round, rounds}
 use Rattle.digest.specs.declared.sha256.Working.{Working}
-use Rattle.digest.proofs.laws.Tables.{stored-next}
+use Rattle.slices.proofs.laws.Tables.{stored-next}
 
 -- a wrapping sum of a wrapping sum is one sum with one remainder
 pub sum-more : (s c : ℕ) {x y : ℕ} → x ≡ s % 2 ^ 32 → y ≡ (x + c) % 2 ^ 32 → y ≡ (s + c) % 2 ^ 32

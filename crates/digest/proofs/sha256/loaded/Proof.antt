@@ -3,7 +3,7 @@ use mathlib.Core.Path.{_≡_, refl}
 use lib.ListN.{take}
 use Rattle.slices.specs.Lists.{tabulate}
 use Rattle.digest.specs.Sha256.{wordOf}
-use Rattle.digest.proofs.laws.Tables.{tabulate-next}
+use Rattle.slices.proofs.laws.Tables.{tabulate-next}
 use borrow.Author.Needs.{needs}
 use Prim.Native.Nat.{_-_, _≤_}
 use lib.ListN.{length}

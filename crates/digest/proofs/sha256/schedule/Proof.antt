@@ -5,7 +5,7 @@ use lib.Seq.{take-all}
 use lib.ListN.{take, length-set}
 use Rattle.slices.specs.Lists.{tabulate}
 use Rattle.digest.specs.Sha256.{wordOf, extended, schedule}
-use Rattle.digest.proofs.laws.Tables.{length-tabulate}
+use Rattle.slices.proofs.laws.Tables.{length-tabulate}
 use Rattle.digest.proofs.laws.sha256.Rounds.{extended-next}
 use borrow.Author.Needs.{needs}
 use Prim.Native.Nat.{_+_, _-_, _≤_}

@@ -21,7 +21,6 @@ use Rattle.digest.specs.Message.{limit}
 use Rattle.selection.specs.Selection.{refusal, selected, select}
 use Rattle.selection.specs.Selection as mode
 use Rattle.selection.specs.Selected.{IsSelected, SelectionAs, SelectedBy, SelectedIn}
-use Rattle.selection.specs.declared.select.Algorithm.{Algorithm}
 use Rattle.selection.specs.declared.select.Algorithm.the-variants as algorithm
 use Rattle.selection.specs.declared.select.Selected.{Selected}
 use Rattle.selection.specs.declared.select.Selection.{Selection}
@@ -38,7 +37,7 @@ use Rattle.stream.specs.declared.walk.SignatureItem.the-variants as signatureIt
 use Rattle.mac.specs.Result.{Streamed, CheckedAs}
 use Rattle.mac.specs.SignatureMode.{streamBy, selectionAnswer, streamIn, answerTo15, measure, answer, result, streamCall, checkCall}
 use Rattle.mac.specs.Inner.Verdict.{CheckOf, lengthOf, lengthAnswer}
-use Rattle.mac.specs.Inner.Calls.{signatureCall, CallAnswered, SelectionRefused, listIn, SelectionLies, SignatureSelected}
+use Rattle.mac.specs.Inner.Calls.{signatureCall, CallAnswered, SelectionRefused, listIn, SelectionLies, SelectedWritten, SignatureSelected}
 use Rattle.mac.specs.declared.verdict.Checked.{Checked}
 use Rattle.mac.specs.declared.verdict.ExpectedLength.{ExpectedLength}
 use Rattle.mac.specs.declared.verdict.ExpectedLength.the-variants as expectedLength
@@ -195,8 +194,7 @@ module _ (uid : List ℕ) (which : Signature) (d : List ℕ) (v : Selection) (t 
         measured-is (answerTo15 uid which d) (streamIn uid which d) (listIn d s) d (s .signed) (signatureItem.Item (s .item)) (is-selected .answers) (is-selected .stream-is) r q
 
     -- what is written, by the expected digest's length
-    module _ (given : ExpectedLength) (out : List ℕ) (a : Answer) (after : List ℕ)
-        (w : WrittenAs (listIn d s) d (s .signed) (signatureItem.Item (s .item)) (lengthAnswer (s .algorithm) given) out a after) where
+    module _ (given : ExpectedLength) (out : List ℕ) (a : Answer) (after : List ℕ) (w : SelectedWritten d s given out a after) where
       selected-call : CallAnswered (signatureCall uid which d out) given limit out a after
       unfolding answer
       selected-call =
@@ -207,18 +205,16 @@ module _ (uid : List ℕ) (which : Signature) (d : List ℕ) (v : Selection) (t 
       pub selected-room : length after ≡ length out → a .number ≡ 0 → a .length ≤ length after
       selected-room = call-room (signatureCall uid which d out) given out after a selected-call
 
-    pub selected-streamed : (out : List ℕ) (a : Answer) (after : List ℕ)
-        → WrittenAs (listIn d s) d (s .signed) (signatureItem.Item (s .item)) (lengthAnswer (s .algorithm) expectedLength.Absent) out a after → AllFit d
+    pub selected-streamed : (out : List ℕ) (a : Answer) (after : List ℕ) → SelectedWritten d s expectedLength.Absent out a after → AllFit d
         → Streamed (result (streamCall uid which d out)) d out a after
     selected-streamed out a after w = call-streamed (signatureCall uid which d out) d out after a (selected-call expectedLength.Absent out a after w)
 
-    pub selected-checked : (expected work : List ℕ) (a : Answer) (after : List ℕ)
-        → WrittenAs (listIn d s) d (s .signed) (signatureItem.Item (s .item)) (lengthAnswer (s .algorithm) (expectedLength.Length (length expected))) work a after
+    pub selected-checked : (expected work : List ℕ) (a : Answer) (after : List ℕ) → SelectedWritten d s (expectedLength.Length (length expected)) work a after
         → (r : Checked) → CheckOf (s .algorithm) a expected after r → AllFit d → CheckedAs (result (checkCall uid which d expected work)) d work r after
     selected-checked expected work a after w r =
         call-checked (signatureCall uid which d work) d expected work after a (selected-call (expectedLength.Length (length expected)) work a after w) (s .algorithm) r refl
 
 -- ---- `write_selected`
-pub selected-written : (l d : List ℕ) (x : Extent) (item : SignatureItem) (of : Algorithm) (given : ExpectedLength) (later : Answer) → later ≡ lengthAnswer of given
-    → (out : List ℕ) (r : Answer) (ys : List ℕ) → WrittenAs l d x item later out r ys → WrittenAs l d x item (lengthAnswer of given) out r ys
-selected-written l d x item of given later q out r ys w = rw q at w
+pub selected-written : (d : List ℕ) (s : Selected) (given : ExpectedLength) (later : Answer) → later ≡ lengthAnswer (s .algorithm) given → (out : List ℕ) (r : Answer) (after : List ℕ)
+    → WrittenAs (listIn d s) d (s .signed) (signatureItem.Item (s .item)) later out r after → SelectedWritten d s given out r after
+selected-written d s given later q out r after w = rw q at w

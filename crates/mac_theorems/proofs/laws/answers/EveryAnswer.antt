@@ -19,7 +19,7 @@ use Rattle.answer.proofs.laws.OrElse.{or-else-holds, both-accepted}
 use Rattle.dataset.specs.Tree.{Element, Elements}
 use Rattle.dataset.specs.Reading.{Reading, fault, read, explicit, elementsAt, sizeLimit, sizeAnswer, levels, dataSet, answerOf, tree}
 use Rattle.dataset.specs.Lookup.{elementOf}
-use Rattle.dataset.proofs.laws.Bools.{choose}
+use Rattle.slices.proofs.laws.Bools.{choose}
 use Rattle.dataset.proofs.laws.reading.Bounded.{explicit-bounded}
 use Rattle.dataset.proofs.laws.reading.Within.{Within, elements-within}
 use Rattle.dataset.proofs.laws.reading.Loops.{data-set-is, data-set-over}

@@ -9,30 +9,12 @@ use native.Mathlib.Omega.{arith}
 use lib.Dec.{eqb}
 use borrow.Author.Tests.{eqb-true, eq-eqb}
 use Rattle.slices.specs.If.{if_then_else_}
-use Rattle.dataset.proofs.laws.Bools.{both}
+use Rattle.slices.proofs.laws.SameBytes.{same-bytes, differ}
 use Rattle.digest.specs.Message.{digestOf}
 use Rattle.digest.specs.Sha256.{sha256}
 use Rattle.mac.specs.Result.{Result, isAccepted, neither, same, differs, compared, verdictOf}
 use Rattle.slices.specs.Lists.{sameBytes}
 use Rattle.mac_theorems.specs.Theorems.{Says}
-
--- ---- the comparison
-same-bytes : (x y : List ℕ) → sameBytes x y ≡ true → x ≡ y
-unfolding sameBytes
-same-bytes [] [] h = refl
-same-bytes [] (b ∷ y) h = absurd (false≢true h)
-same-bytes (a ∷ x) [] h = absurd (false≢true h)
-same-bytes (a ∷ x) (b ∷ y) h =
-    let p = both (eqb a b) (sameBytes x y) h in
-    ap₂ (λ (n : ℕ) (z : List ℕ). n ∷ z) (eqb-true a b (p .0)) (same-bytes x y (p .1))
-
-bytes-same : (x : List ℕ) → sameBytes x x ≡ true
-unfolding sameBytes
-bytes-same [] = refl
-bytes-same (a ∷ x) = rw (eq-eqb a a refl, bytes-same x)
-
-differ : (x y : List ℕ) → sameBytes x y ≡ false → x ≢ y
-differ x y h e = true≢false (sym (bytes-same x) ∙ ap (sameBytes x) e ∙ h)
 
 -- ---- the verdict
 abbrev verdictBy : (accepted equal : Bool) → ℕ

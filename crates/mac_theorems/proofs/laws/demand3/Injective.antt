@@ -11,7 +11,7 @@ use lib.ListN.{length, getD, take, drop}
 use lib.Seq.{take-at, drop-at}
 use borrow.Author.Tests.{ne-eqb}
 use Rattle.dataset.specs.Vr.{OB, SQ, oneOf}
-use Rattle.dataset.proofs.laws.Bools.{neither}
+use Rattle.slices.proofs.laws.Bools.{neither}
 use Rattle.stream.specs.Content.{SignedElement, SignedElements, SignedItems, inFragments, someInFragments, itemsInFragments}
 use Rattle.mac_theorems.proofs.laws.demand3.ByteSlices.{tagBytes, vrBytes, bytes16, bytes32}
 use Rattle.mac_theorems.proofs.laws.demand3.Encoding.{isShort, lengthBytes, encodeFragments, encode, encodeElements, encodeItems}

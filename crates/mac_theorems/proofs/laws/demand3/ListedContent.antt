@@ -16,7 +16,7 @@ use Rattle.stream.specs.Stream.{foundStream, listedStream}
 use Rattle.stream.specs.UN.{isUN, holdsUN}
 use Rattle.stream.specs.Listed.{elementAnswer, tagsAnswer}
 use Rattle.mac_theorems.specs.Demand3.{foundHoldsUN, listedHoldUN}
-use Rattle.dataset.proofs.laws.Bools.{neither}
+use Rattle.slices.proofs.laws.Bools.{neither}
 use Rattle.mac_theorems.proofs.laws.demand3.Encoding.{encodeElements, element-encoded}
 use Rattle.mac_theorems.proofs.laws.demand3.Injective.{ElementsFit}
 use Rattle.mac_theorems.proofs.laws.demand3.Fitting.{WithinSize, element-fits}

@@ -12,7 +12,7 @@ use Rattle.slices.specs.If.{if_then_else_}
 use Rattle.dataset.specs.Vr.{AT, CS, UI}
 use Rattle.dataset.specs.Tree.{Element, Elements, Items}
 use Rattle.dataset.specs.Lookup.{elementOf}
-use Rattle.dataset.proofs.laws.Bools.{choose}
+use Rattle.slices.proofs.laws.Bools.{choose}
 use Rattle.stream.specs.Stream.{itemTagBytes, streamOf, elementsStream, itemsStream, foundStream}
 use Rattle.selection.specs.Selection.{valueOf, itemsOf, firstItem, itemWhere, signatureItem, macIdOf, parametersItem, badTransferSyntax, Algorithm, algorithmOf, Selection, refusal, selected, need, parametersSelect, selectIn, select}
 use Rattle.dataset.specs.Tags.{macCalculationTransferSyntaxUid, macAlgorithm, dataElementsSigned, digitalSignaturesSequence}

@@ -12,7 +12,7 @@ use Rattle.stream.specs.TagList.{barred, unlessBarred}
 use Rattle.stream.specs.Stream.{streamOf, elementsStream}
 use Rattle.stream.specs.UN.{isUN, holdsUN}
 use Rattle.stream.specs.Own.{named, leftOut, own}
-use Rattle.dataset.proofs.laws.Bools.{neither}
+use Rattle.slices.proofs.laws.Bools.{neither}
 use Rattle.stream.proofs.laws.writer.StreamLength.{elements-length}
 
 -- an element that is not left out
