@@ -2,7 +2,6 @@
 use crate::verdict;
 use crate::verdict::Checked;
 use crate::verdict::ExpectedLength;
-use crate::verdict::Verdict;
 use answer::Answer;
 use dataset::extent;
 use dataset::reading;
@@ -84,10 +83,7 @@ pub fn signature_check(
     ensures { λ r. ⌜ CheckedAs (result (checkCall (now (uid .entry)) which (now (d .entry)) (now (expected .entry)) (now (work .entry)))) (now (d .entry)) (now (work .entry)) r (now (work .exit)) ⌝ }
 {
     match select_whole(uid, which, d) {
-        Selection::Refused(answer) => Checked {
-            answer,
-            verdict: Verdict::Neither,
-        },
+        Selection::Refused(answer) => verdict::refused(answer),
         Selection::Selected(selected) => {
             let algorithm = selected.algorithm;
             let length = ExpectedLength::Length(expected.len());

@@ -1,4 +1,4 @@
-// What a check says.
+// 9, the digest by its algorithm, and what a check says.
 use answer::Answer;
 use digest::message;
 use digest::message::Hashed;
@@ -9,7 +9,7 @@ ghost use Prim.Native.Nat.{_≤_};
 ghost use lib.ListN.{length};
 ghost use Rattle.digest.specs.Message.{hashing};
 ghost use Rattle.mac.specs.Result.{verdictCode, compared};
-ghost use Rattle.mac.specs.Inner.Verdict.{CheckOf, digestLength, standard, lengthAnswer};
+ghost use Rattle.mac.specs.Inner.Verdict.{CheckOf, digestLength, standard, lengthAnswer, refusedCheck};
 
 // Whether the digest of the stream is the expected one; a check that is refused says neither of the two.
 pub enum Verdict {
@@ -30,7 +30,7 @@ pub(crate) enum ExpectedLength {
     Length(usize),
 }
 
-// How many bytes a digest has.
+// How many bytes the digests of an algorithm have.
 fn digest_length(algorithm: Algorithm) -> usize
     ensures { λ r. ⌜ r ≡ digestLength algorithm ⌝ }
 {
@@ -39,7 +39,7 @@ fn digest_length(algorithm: Algorithm) -> usize
     }
 }
 
-// The digest of a message.
+// The digest of a message, by its algorithm.
 fn digest_by(algorithm: Algorithm, message: &[u8]) -> Hashed
     ensures { λ r. ⌜ r ≡ hashing (standard algorithm) (now (message .entry)) ⌝ }
 {
@@ -48,7 +48,7 @@ fn digest_by(algorithm: Algorithm, message: &[u8]) -> Hashed
     }
 }
 
-// 9, where an expected digest has not the length of a digest; or else number 0.
+// 9, where an expected digest has not the length of the algorithm's; or else number 0.
 pub(crate) fn length_answer(algorithm: Algorithm, expected: ExpectedLength) -> Answer
     ensures { λ r. ⌜ r ≡ lengthAnswer algorithm expected ⌝ }
 {
@@ -72,6 +72,16 @@ fn verdict_of(digest: &[u8], expected: &[u8]) -> Verdict
     Verdict::Differs
 }
 
+// A check that is refused.
+pub(crate) fn refused(answer: Answer) -> Checked
+    ensures { λ r. ⌜ r ≡ refusedCheck answer ⌝ }
+{
+    Checked {
+        answer,
+        verdict: Verdict::Neither,
+    }
+}
+
 // A check, by the answer of its stream, which stands in the work buffer where it is accepted.
 pub(crate) fn check_of(
     algorithm: Algorithm,
@@ -83,10 +93,7 @@ pub(crate) fn check_of(
     ensures { λ r. ⌜ CheckOf algorithm answer (now (expected .entry)) (now (work .entry)) r ⌝ }
 {
     if answer.number != 0 {
-        return Checked {
-            answer,
-            verdict: Verdict::Neither,
-        };
+        return refused(answer);
     }
     let length = answer.length;
     let hashed = digest_by(algorithm, &work[..length]);

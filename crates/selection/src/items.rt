@@ -16,7 +16,7 @@ ghost use Rattle.dataset.specs.Vr.{US};
 ghost use Rattle.dataset.specs.Extent.{itemsIn};
 ghost use Rattle.dataset.specs.Place.{Lies};
 ghost use Rattle.dataset.specs.Inner.Place.{PlaceLies};
-ghost use Rattle.selection.specs.Inner.Selection.{SameMacId, KeyLies, TestsKey, FoundItemIn, FoundItemUnder, firstWith};
+ghost use Rattle.selection.specs.Inner.Selection.{SameMacId, KeyLies, TestsKey, FoundItemIn, FoundItemUnder};
 
 // By what an item of a sequence is found: its number from 0, or its MAC ID Number, the bytes of the data set from start to end.
 pub(crate) enum ItemKey {
@@ -106,7 +106,7 @@ fn find_item(d: &[u8], x: Extent, key: ItemKey) -> FoundItem
 // The first item with the key, of what stands under a tag.
 pub(crate) fn find_item_under(d: &[u8], p: Place, key: ItemKey) -> FoundItem
     requires { ⌜ PlaceLies (now d) p × KeyLies (now d) key ⌝ }
-    ensures { λ r. ⌜ FoundItemUnder (now (d .entry)) p (firstWith (now (d .entry)) key) r ⌝ }
+    ensures { λ r. ⌜ FoundItemUnder (now (d .entry)) p key r ⌝ }
 {
     let Place::Items(x) = p else {
         return FoundItem::Absent;

@@ -12,9 +12,9 @@ use dataset::tags;
 ghost use mathlib.Core.Path.{_≡_};
 ghost use Rattle.answer.specs.Answer as Spec;
 ghost use Rattle.dataset.specs.Place.{Lies};
-ghost use Rattle.dataset.specs.Inner.Place.{Located};
+ghost use Rattle.dataset.specs.Inner.Place.{PlaceLies, Located};
 ghost use Rattle.selection.specs.Selected.{SelectedIn};
-ghost use Rattle.selection.specs.Inner.Selection.{FoundItemUnder, chosenBy, SelectOf};
+ghost use Rattle.selection.specs.Inner.Selection.{SignaturesAt, SignatureItemAt, SelectOf};
 ghost use Rattle.selection.specs.declared.select.Selection.the-variants as selection;
 
 // Which signature: none is named, or by its number from 0.
@@ -53,8 +53,8 @@ pub(crate) fn refused(number: u8) -> Selection
 
 // The signature item, by the caller's choice, of what stands under (FFFA,FFFA); where no number is given, 0 is taken.
 fn signature_item(d: &[u8], which: Signature, signatures: Place) -> FoundItem
-    requires { ⌜ Located (now d) signatures ⌝ }
-    ensures { λ r. ⌜ FoundItemUnder (now (d .entry)) signatures (chosenBy which) r ⌝ }
+    requires { ⌜ PlaceLies (now d) signatures ⌝ }
+    ensures { λ r. ⌜ SignatureItemAt (now (d .entry)) which signatures r ⌝ }
 {
     match which {
         Signature::Unnamed => items::find_item_under(d, signatures, ItemKey::Number(0)),
@@ -74,7 +74,7 @@ fn select_from(
     parameters: Place,
     signatures: Place,
 ) -> Selection
-    requires { ⌜ Lies (now d) x × Located (now d) parameters × Located (now d) signatures ⌝ }
+    requires { ⌜ Lies (now d) x × Located (now d) parameters × SignaturesAt (now d) signatures ⌝ }
     ensures { λ r. ⌜ SelectOf (now (uid .entry)) which (now (d .entry)) whole x parameters signatures r ⌝ }
 {
     let signature = signature_item(d, which, signatures);

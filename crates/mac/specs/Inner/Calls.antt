@@ -1,4 +1,4 @@
--- For inner contracts; no part of what a reader has to believe: a call in either mode, and what signature mode selects.
+-- For inner contracts; no part of what a reader has to believe: a call, by its expected digest; what signature mode selects, and what is written of it.
 -- Assumes nothing.
 use Prim.Native.Nat.{ℕ, _-_, _≤_}
 use mathlib.Core.Path.{_≡_}
@@ -32,12 +32,9 @@ pub record CallAnswered (call : Option (List ℕ) → Result) (given : ExpectedL
   pub room : r .number ≡ 0 → r .length ≤ length out
   pub short : r .number ≡ 0 → r .length ≤ most
 
--- list mode and signature mode
+-- list mode
 abbrev pub listCall : (list d out : List ℕ) → Option (List ℕ) → Result
 listCall list d out expected = listMode.result (record { list = list; set = d; room = length out; expected = expected })
-
-abbrev pub signatureCall : (uid : List ℕ) (which : Signature) (d out : List ℕ) → Option (List ℕ) → Result
-signatureCall uid which d out expected = signatureMode.result (record { uid = uid; which = which; set = d; room = length out; expected = expected })
 
 -- ---- what is selected: a refusal, f; or what lies where s says
 
@@ -56,10 +53,11 @@ pub record SelectionLies (uid : List ℕ) (which : Signature) (d : List ℕ) (s 
   pub answers : signatureMode.answerTo15 uid which d ≡ walk.answerTo15 (listIn d s) d (s .signed) (signatureItem.Item (s .item))
   pub stream-is : signatureMode.streamIn uid which d ≡ walk.streamIn (listIn d s) d (s .signed) (signatureItem.Item (s .item))
 
--- the stream of what is selected is written; 9 by the length of the expected digest
-abbrev pub SelectedWritten : (d : List ℕ) (s : Selected) (given : ExpectedLength) (out : List ℕ) (r : Answer) (after : List ℕ) → Type 0
-SelectedWritten d s given out r after = walk.WrittenAs (listIn d s) d (s .signed) (signatureItem.Item (s .item)) (lengthAnswer (s .algorithm) given) out r after
-
 abbrev pub SignatureSelected : (uid : List ℕ) (which : Signature) (d : List ℕ) → Selection → Type 0
 SignatureSelected uid which d (selection.Refused f) = SelectionRefused uid which d f
 SignatureSelected uid which d (selection.Selected s) = SelectionLies uid which d s
+
+-- ---- what is written of it: the stream; 9 by the length of the expected digest
+
+abbrev pub SelectedWritten : (d : List ℕ) (s : Selected) (given : ExpectedLength) (out : List ℕ) (r : Answer) (after : List ℕ) → Type 0
+SelectedWritten d s given out r after = walk.WrittenAs (listIn d s) d (s .signed) (signatureItem.Item (s .item)) (lengthAnswer (s .algorithm) given) out r after

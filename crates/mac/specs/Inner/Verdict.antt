@@ -18,6 +18,7 @@ use Rattle.selection.specs.declared.select.Algorithm.{Algorithm}
 use Rattle.selection.specs.declared.select.Algorithm.the-variants as algorithm
 use Rattle.mac.specs.Result.{neither, verdictCode, compared}
 use Rattle.mac.specs.declared.verdict.Checked.{Checked}
+use Rattle.mac.specs.declared.verdict.Verdict.the-variants as verdict
 use Rattle.mac.specs.declared.verdict.ExpectedLength.{ExpectedLength}
 use Rattle.mac.specs.declared.verdict.ExpectedLength.the-variants as expectedLength
 
@@ -41,7 +42,12 @@ abbrev pub lengthAnswer : Algorithm → ExpectedLength → Answer
 lengthAnswer a expectedLength.Absent = accepted 0
 lengthAnswer a (expectedLength.Length n) = if not (eqb n (digestLength a)) then refused 9 0 else accepted 0
 
-pub record CheckOf (algorithm : Algorithm) (a : Answer) (expected work : List ℕ) (r : Checked) : Type 0 where
+-- one that is refused
+abbrev pub refusedCheck : Answer → Checked
+refusedCheck a = record { answer = a; verdict = verdict.Neither }
+
+-- by the algorithm and the answer of its stream
+pub record CheckOf (of : Algorithm) (a : Answer) (expected work : List ℕ) (r : Checked) : Type 0 where
   pub answers : r .answer ≡ a
   pub refused : (a .number ≡ 0 → ⊥) → verdictCode (r .verdict) ≡ neither
-  pub says : a .number ≡ 0 → verdictCode (r .verdict) ≡ compared (some expected) (hashing (standard algorithm) (take (a .length) work) .digest)
+  pub says : a .number ≡ 0 → verdictCode (r .verdict) ≡ compared (some expected) (hashing (standard of) (take (a .length) work) .digest)

@@ -20,7 +20,7 @@ use Rattle.selection.specs.Selection.{itemsOf, valueOf, itemWhere}
 use Rattle.dataset.specs.Extent.{elementsIn, itemsIn}
 use Rattle.dataset.specs.Place.{Lies, Placed, SoughtAs, SoughtIn}
 use Rattle.dataset.specs.Inner.Place.{PlaceLies, Located}
-use Rattle.selection.specs.Inner.Selection.{hasKey, FoundItemAs, FoundItemIn, FoundItemUnder, firstWith, Tests}
+use Rattle.selection.specs.Inner.Selection.{hasKey, FoundItemAs, FoundItemIn, FoundItemUnder, Tests}
 use Rattle.dataset.specs.declared.extent.Extent.{Extent}
 use Rattle.dataset.specs.declared.seek.Place.{Place}
 use Rattle.dataset.specs.declared.seek.Place.the-variants as place
@@ -127,7 +127,7 @@ not-items : (x : Extent) → NoItems (place.Items x) → _≡_ {A = ℕ} 0 1
 not-items x h = ⊎-elim (λ e. omega arith) (λ k. ⊎-elim (λ e. omega arith) (λ e. omega arith) k) h
 
 module _ (d : List ℕ) (p : Place) (w : ItemKey) where
-  pub item-none : NoItems p → FoundItemUnder d p (firstWith d w) found.Absent
+  pub item-none : NoItems p → FoundItemUnder d p w found.Absent
   item-none h = record { says = by-element }
     where
       by-element : (o : Option Element) → Placed d o p → FoundItemAs d (itemWhere (hasKey d w) (itemsOf o)) found.Absent
@@ -143,7 +143,7 @@ module _ (d : List ℕ) (p : Place) (w : ItemKey) where
     pub items-level : PlaceLies d p → 0 < x .left
     items-level l = (rw is at l) .1
 
-    pub item-found : (r : FoundItem) → FoundItemIn d w 0 (itemsIn d x) r → FoundItemUnder d p (firstWith d w) r
+    pub item-found : (r : FoundItem) → FoundItemIn d w 0 (itemsIn d x) r → FoundItemUnder d p w r
     item-found r k = record { says = by-element }
       where
         by-element : (o : Option Element) → Placed d o p → FoundItemAs d (itemWhere (hasKey d w) (itemsOf o)) r

@@ -13,7 +13,7 @@ use Rattle.dataset.specs.Vr.{CS, UI, US}
 use Rattle.dataset.specs.Tree.{Element, Elements, Items}
 use Rattle.dataset.specs.Reading.{Reading, fault, read, treeOf}
 use Rattle.dataset.specs.Lookup.{elementOf}
-use Rattle.selection.specs.Selection.{itemsOf, valueOf, firstItem, itemWhere, twoBytes, macIdOf, isId, lessNul, badTransferSyntax, algorithmOf, parametersSelect, selectIn}
+use Rattle.selection.specs.Selection.{itemsOf, valueOf, firstItem, itemWhere, twoBytes, signatureItem, macIdOf, isId, lessNul, badTransferSyntax, algorithmOf, parametersSelect, selectIn}
 use Rattle.dataset.specs.Tags.{macIdNumber, dataElementsSigned, macParametersSequence, digitalSignaturesSequence}
 use Rattle.selection.specs.Selection as spec
 use Rattle.selection.specs.Selected.{algorithmCase, SelectionAs}
@@ -29,7 +29,6 @@ use Rattle.selection.specs.declared.parameters.FoundAlgorithm.{FoundAlgo
 use Rattle.selection.specs.declared.parameters.FoundAlgorithm.the-variants as foundAlgorithm
 use Rattle.selection.specs.declared.select.Selection.{Selection}
 use Rattle.selection.specs.declared.select.Signature.{Signature}
-use Rattle.selection.specs.declared.select.Signature.the-variants as signature
 
 -- ---- the item that has a key
 
@@ -73,18 +72,18 @@ SameMacId d p start end r = Tests Bool US (λ value. isId (between d start end) 
 abbrev pub TestsKey : List ℕ → ItemKey → (index : ℕ) → Place → Bool → Type 0
 TestsKey d w index p r = (es : Elements) → Placed d (elementOf macIdNumber es) p → r ≡ hasKey d w index es
 
--- the item that is chosen of the element o, which lies at p
-pub record FoundItemUnder (d : List ℕ) (p : Place) (choose : Option Items → Option Elements) (r : FoundItem) : Type 0 where
-  pub says : (o : Option Element) → Placed d o p → FoundItemAs d (choose (itemsOf o)) r
+-- the first item with the key, of the element o, which lies at p
+pub record FoundItemUnder (d : List ℕ) (p : Place) (w : ItemKey) (r : FoundItem) : Type 0 where
+  pub says : (o : Option Element) → Placed d o p → FoundItemAs d (itemWhere (hasKey d w) (itemsOf o)) r
 
--- the first with a key
-abbrev pub firstWith : List ℕ → ItemKey → Option Items → Option Elements
-firstWith d w items = itemWhere (hasKey d w) items
+-- (FFFA,FFFA) of some data set lies at p
+pub record SignaturesAt (d : List ℕ) (p : Place) : Type 0 where
+  pub elements : Elements
+  pub placed : Placed d (elementOf digitalSignaturesSequence elements) p
 
--- the signature item, by the caller's choice: `signatureItem`, of the items
-abbrev pub chosenBy : Signature → Option Items → Option Elements
-chosenBy signature.Unnamed items = itemWhere (λ index item. eqb index 0) items
-chosenBy (signature.Number number) items = itemWhere (λ index item. eqb index number) items
+-- the signature item, by the caller's choice, of a data set whose (FFFA,FFFA) lies at p
+pub record SignatureItemAt (d : List ℕ) (which : Signature) (p : Place) (r : FoundItem) : Type 0 where
+  pub says : (es : Elements) → Placed d (elementOf digitalSignaturesSequence es) p → FoundItemAs d (signatureItem which es) r
 
 -- ---- the tests of the parameters item
 

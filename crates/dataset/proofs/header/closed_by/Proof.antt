@@ -5,9 +5,9 @@ use mathlib.Core.Bool.{Bool, true, false, not, _&&_}
 use mathlib.Core.List.{List}
 use lib.Dec.{eqb}
 use borrow.Author.Needs.{needs}
+use borrow.Author.Tests.{not-true, not-false}
 use Rattle.dataset.specs.Bytes.{tagAt, num32}
 use Rattle.dataset.specs.Header.{closedBy}
-use Rattle.slices.proofs.laws.Bools.{not-true, not-false}
 use Rattle.dataset.proofs.header.closed_by.Statement.{statement}
 use Rattle.dataset.proofs.header.closed_by.Tie as tie
 

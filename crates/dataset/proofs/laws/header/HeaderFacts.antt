@@ -6,7 +6,7 @@ use mathlib.Core.Logic.{_≢_}
 use mathlib.Core.Bool.{Bool, true, false, not, _&&_, true≢false, false≢true}
 use mathlib.Core.List.{List}
 use native.Mathlib.Omega.{arith}
-use borrow.Author.Tests.{ltb-false, eqb-true, eqb-false}
+use borrow.Author.Tests.{ltb-false, eqb-true, eqb-false, not-true, not-false}
 use lib.ListN.{length}
 use lib.Dec.{ltb, eqb}
 use Rattle.slices.specs.If.{if_then_else_}
@@ -17,7 +17,7 @@ use Rattle.dataset.specs.Tags.{itemTag, itemDelimitationItem, sequenceDe
 use Rattle.dataset.specs.Order.{Tagged, Sized, ValueAt, NestAt, HeaderExtent, EndsIn}
 use Rattle.dataset.specs.declared.vr.Form.{Form}
 use Rattle.dataset.specs.declared.vr.Form.the-variants.{Short, Long, Neither}
-use Rattle.slices.proofs.laws.Bools.{choose, and-right, both, neither, not-false, not-true}
+use Rattle.slices.proofs.laws.Bools.{choose, and-right, both, neither}
 
 -- a refusal that a header at `at` gives
 abbrev pub RefusedAt : (at number position : ℕ) → Type 0

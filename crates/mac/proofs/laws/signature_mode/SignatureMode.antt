@@ -3,7 +3,7 @@ use Prim.Native.Nat.{ℕ, _≤_}
 use mathlib.Core.Path.{_≡_, refl, sym, ap, _∙_}
 use mathlib.Core.Bool.{true≢false}
 use mathlib.Core.List.{List}
-use mathlib.Core.Option.{some}
+use mathlib.Core.Option.{Option, some}
 use mathlib.Core.Option as Opt
 use native.Mathlib.Omega.{arith}
 use lib.ListN.{length}
@@ -21,7 +21,6 @@ use Rattle.digest.specs.Message.{limit}
 use Rattle.selection.specs.Selection.{refusal, selected, select}
 use Rattle.selection.specs.Selection as mode
 use Rattle.selection.specs.Selected.{IsSelected, SelectionAs, SelectedBy, SelectedIn}
-use Rattle.selection.specs.declared.select.Algorithm.the-variants as algorithm
 use Rattle.selection.specs.declared.select.Selected.{Selected}
 use Rattle.selection.specs.declared.select.Selection.{Selection}
 use Rattle.selection.specs.declared.select.Selection.the-variants as selection
@@ -34,16 +33,14 @@ use Rattle.stream.proofs.laws.listed.ListedAnswers.{tags-end}
 use Rattle.stream.specs.Walk as walk
 use Rattle.stream.specs.declared.walk.SignatureItem.{SignatureItem}
 use Rattle.stream.specs.declared.walk.SignatureItem.the-variants as signatureItem
-use Rattle.mac.specs.Result.{Streamed, CheckedAs}
+use Rattle.mac.specs.Result.{Result, Streamed, CheckedAs}
 use Rattle.mac.specs.SignatureMode.{streamBy, selectionAnswer, streamIn, answerTo15, measure, answer, result, streamCall, checkCall}
-use Rattle.mac.specs.Inner.Verdict.{CheckOf, lengthOf, lengthAnswer}
-use Rattle.mac.specs.Inner.Calls.{signatureCall, CallAnswered, SelectionRefused, listIn, SelectionLies, SelectedWritten, SignatureSelected}
+use Rattle.mac.specs.Inner.Verdict.{CheckOf, lengthOf, lengthAnswer, refusedCheck}
+use Rattle.mac.specs.Inner.Calls.{CallAnswered, SelectionRefused, listIn, SelectionLies, SelectedWritten, SignatureSelected}
 use Rattle.mac.specs.declared.verdict.Checked.{Checked}
 use Rattle.mac.specs.declared.verdict.ExpectedLength.{ExpectedLength}
-use Rattle.mac.specs.declared.verdict.ExpectedLength.the-variants as expectedLength
-use Rattle.mac.specs.declared.verdict.Verdict.the-variants as verdict
 use Rattle.mac.proofs.laws.EitherCall.{call-refused, measured-is, call-written}
-use Rattle.mac.proofs.laws.verdict.VerdictOfChecks.{AllFit, check-refused, call-streamed, call-room, call-checked}
+use Rattle.mac.proofs.laws.verdict.VerdictOfChecks.{AllFit, call-streamed, call-room, call-neither, call-checked}
 
 -- ---- what is selected, where the data set is read as p
 pub record Picked (uid : List ℕ) (which : Signature) (d : List ℕ) (x : Extent) (p : Reading Elements) (s : Selected) : Type 0 where
@@ -155,7 +152,11 @@ module _ (uid : List ℕ) (which : Signature) (d : List ℕ) where
     pub select-selected : SignatureSelected uid which d r
     select-selected = by-case r refl
 
--- ---- measuring, and a call; v is what is selected
+-- ---- measuring, and a call, by its expected digest; v is what is selected
+
+abbrev signatureCall : (uid : List ℕ) (which : Signature) (d out : List ℕ) → Option (List ℕ) → Result
+signatureCall uid which d out expected = result (record { uid = uid; which = which; set = d; room = length out; expected = expected })
+
 module _ (uid : List ℕ) (which : Signature) (d : List ℕ) (v : Selection) (t : SignatureSelected uid which d v) where
   module _ (a : Answer) (e : v ≡ selection.Refused a) where
     is-refusal : SelectionRefused uid which d a
@@ -172,11 +173,9 @@ module _ (uid : List ℕ) (which : Signature) (d : List ℕ) (v : Selection) (t 
     pub refused-streamed : (out : List ℕ) → AllFit d → Streamed (result (streamCall uid which d out)) d out a out
     refused-streamed out = call-streamed (signatureCall uid which d out) d out out a (refused-call (lengthOf Opt.none) out)
 
-    pub refused-checked : (expected work : List ℕ) → AllFit d
-        → CheckedAs (result (checkCall uid which d expected work)) d work (record { answer = a; verdict = verdict.Neither }) work
+    pub refused-checked : (expected work : List ℕ) (r : Checked) → r ≡ refusedCheck a → AllFit d → CheckedAs (result (checkCall uid which d expected work)) d work r work
     refused-checked expected work =
-        call-checked (signatureCall uid which d work) d expected work work a (refused-call (lengthOf (some expected)) work) algorithm.Sha256 _ refl
-        (check-refused algorithm.Sha256 a expected work (is-refusal .number))
+        call-neither (signatureCall uid which d work) d expected work work a (refused-call (lengthOf (some expected)) work) (is-refusal .number)
 
   module _ (s : Selected) (e : v ≡ selection.Selected s) where
     is-selected : SelectionLies uid which d s
@@ -205,14 +204,14 @@ module _ (uid : List ℕ) (which : Signature) (d : List ℕ) (v : Selection) (t 
       pub selected-room : length after ≡ length out → a .number ≡ 0 → a .length ≤ length after
       selected-room = call-room (signatureCall uid which d out) given out after a selected-call
 
-    pub selected-streamed : (out : List ℕ) (a : Answer) (after : List ℕ) → SelectedWritten d s expectedLength.Absent out a after → AllFit d
+    pub selected-streamed : (out : List ℕ) (a : Answer) (after : List ℕ) → SelectedWritten d s (lengthOf Opt.none) out a after → AllFit d
         → Streamed (result (streamCall uid which d out)) d out a after
-    selected-streamed out a after w = call-streamed (signatureCall uid which d out) d out after a (selected-call expectedLength.Absent out a after w)
+    selected-streamed out a after w = call-streamed (signatureCall uid which d out) d out after a (selected-call (lengthOf Opt.none) out a after w)
 
-    pub selected-checked : (expected work : List ℕ) (a : Answer) (after : List ℕ) → SelectedWritten d s (expectedLength.Length (length expected)) work a after
+    pub selected-checked : (expected work : List ℕ) (a : Answer) (after : List ℕ) → SelectedWritten d s (lengthOf (some expected)) work a after
         → (r : Checked) → CheckOf (s .algorithm) a expected after r → AllFit d → CheckedAs (result (checkCall uid which d expected work)) d work r after
     selected-checked expected work a after w r =
-        call-checked (signatureCall uid which d work) d expected work after a (selected-call (expectedLength.Length (length expected)) work a after w) (s .algorithm) r refl
+        call-checked (signatureCall uid which d work) d expected work after a (selected-call (lengthOf (some expected)) work a after w) (s .algorithm) r refl
 
 -- ---- `write_selected`
 pub selected-written : (d : List ℕ) (s : Selected) (given : ExpectedLength) (later : Answer) → later ≡ lengthAnswer (s .algorithm) given → (out : List ℕ) (r : Answer) (after : List ℕ)

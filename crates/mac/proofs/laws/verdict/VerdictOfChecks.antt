@@ -1,5 +1,5 @@
--- The verdict of a check, place by place, with the facts of the place as premises. Assumes nothing.
-use Prim.Native.Nat.{ℕ, _+_, _≤_}
+-- 9, the digest by its algorithm, and the verdict of a check, place by place, with the facts of the place as premises. Assumes nothing.
+use Prim.Native.Nat.{ℕ, _≤_}
 use mir.Syntax.{w8}
 use mir.Val.{Fits}
 use mathlib.Core.Path.{_≡_, refl, sym, ap, _∙_}
@@ -19,14 +19,13 @@ use Rattle.digest.specs.Message.{limit, digestOf, hashing}
 use Rattle.digest.specs.Sha256.{sha256}
 use Rattle.stream.specs.Walk.{leftIn}
 use Rattle.digest.specs.declared.message.Hashed.{Hashed}
-use Rattle.mac.specs.Result.{Result, outputAfter, same, differs, verdictCode, compared, verdictOf, Streamed, CheckedAs}
+use Rattle.mac.specs.Result.{Result, outputAfter, neither, same, differs, verdictCode, compared, verdictOf, Streamed, CheckedAs}
 use Rattle.slices.specs.Lists.{sameBytes}
 use Rattle.selection.specs.declared.select.Algorithm.{Algorithm}
 use Rattle.selection.specs.declared.select.Algorithm.the-variants as algorithm
-use Rattle.mac.specs.Inner.Verdict.{CheckOf, standard, digestLength, lengthOf, lengthAnswer}
+use Rattle.mac.specs.Inner.Verdict.{CheckOf, standard, digestLength, lengthOf, lengthAnswer, refusedCheck}
 use Rattle.mac.specs.Inner.Calls.{CallAnswered}
 use Rattle.mac.specs.declared.verdict.Verdict.{Verdict}
-use Rattle.mac.specs.declared.verdict.Verdict.the-variants as verdict
 use Rattle.mac.specs.declared.verdict.Checked.{Checked}
 use Rattle.mac.specs.declared.verdict.ExpectedLength.{ExpectedLength}
 use Rattle.mac.specs.declared.verdict.ExpectedLength.the-variants as expectedLength
@@ -68,8 +67,8 @@ unfolding hashing if_then_else_
 hashes algorithm.Sha256 m h = rw (le-leb (length m) limit h)
 
 module _ (of : Algorithm) (a : Answer) (expected work : List ℕ) where
-  pub check-refused : (a .number ≡ 0 → ⊥) → CheckOf of a expected work (record { answer = a; verdict = verdict.Neither })
-  check-refused h = record { answers = refl; refused = λ k. refl; says = λ z. absurd (h z) }
+  pub check-refused : (r : Checked) → (a .number ≡ 0 → ⊥) → r ≡ refusedCheck a → CheckOf of a expected work r
+  check-refused r h e = record { answers = rw e; refused = λ k. rw e; says = λ z. absurd (h z) }
 
   pub check-said : (g : Hashed) (v : Verdict) → a .number ≡ 0 → g ≡ hashing (standard of) (take (a .length) work) → verdictCode v ≡ compared (some expected) (g .digest)
       → CheckOf of a expected work (record { answer = a; verdict = v })
@@ -102,16 +101,26 @@ module _ (call : Option (List ℕ) → Result) (d expected work after : List ℕ
       let y : after ≡ b ++ drop (length b) work = t .output ∙ rw (← t .answers, eq-eqb (a .number) 0 h) in
       rw y (take-at b (drop (length b) work) (a .length) (sym (s .long (some expected) h)))
 
+  module _ (r : Checked) (answers : r .answer ≡ a) (b : AllFit d) where
+    as-said : verdictCode (r .verdict) ≡ verdictOf (call (some expected)) → CheckedAs (call (some expected)) d work r after
+    as-said v = let t = s .streamed (some expected) refl in record { answers = answers ∙ t .answers; says = v; output = t .output; bytes = λ i. b i .fits }
+
+    -- a refused one says neither
+    as-neither : (a .number ≡ 0 → ⊥) → verdictCode (r .verdict) ≡ neither → CheckedAs (call (some expected)) d work r after
+    unfolding verdictOf if_then_else_
+    as-neither h v = as-said (v ∙ rw (← s .streamed (some expected) refl .answers, ne-eqb (a .number) 0 h))
+
+  pub call-neither : (a .number ≡ 0 → ⊥) → (r : Checked) → r ≡ refusedCheck a → AllFit d → CheckedAs (call (some expected)) d work r after
+  call-neither h r e b = as-neither r (rw e) b h (rw e)
+
   pub call-checked : (of : Algorithm) (r : Checked) → call (some expected) .expected ≡ some expected → CheckOf of a expected after r → AllFit d → CheckedAs (call (some expected)) d work r after
   unfolding verdictOf if_then_else_
-  call-checked of r e k b =
-      let t = s .streamed (some expected) refl in
-      record { answers = k .answers ∙ t .answers; says = go (eqb (a .number) 0) refl; output = t .output; bytes = λ i. b i .fits }
+  call-checked of r e k b = go (eqb (a .number) 0) refl
     where
-      go : (b : Bool) → eqb (a .number) 0 ≡ b → verdictCode (r .verdict) ≡ verdictOf (call (some expected))
+      go : (t : Bool) → eqb (a .number) 0 ≡ t → CheckedAs (call (some expected)) d work r after
       go true q =
           let z = eqb-true (a .number) 0 q in
-          let b = call (some expected) .stream in
-          let m : length b ≤ limit = omega (arith, s .long (some expected) z, s .short z) in
-          k .says z ∙ rw (digested z, hashes of b m, e, ← s .streamed (some expected) refl .answers, q)
-      go false q = k .refused (eqb-false (a .number) 0 q) ∙ rw (← s .streamed (some expected) refl .answers, q)
+          let m = call (some expected) .stream in
+          let n : length m ≤ limit = omega (arith, s .long (some expected) z, s .short z) in
+          as-said r (k .answers) b (k .says z ∙ rw (digested z, hashes of m n, e, ← s .streamed (some expected) refl .answers, q))
+      go false q = let h = eqb-false (a .number) 0 q in as-neither r (k .answers) b h (k .refused h)

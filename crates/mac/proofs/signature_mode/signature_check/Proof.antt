@@ -10,6 +10,9 @@ select-whole-requires c κs = search needs
 enum-known-answer : tie.Need-enum-known-answer
 enum-known-answer c = search needs
 
+refused-requires : tie.Need-refused-requires
+refused-requires c κs = search needs
+
 enum-known-selected : tie.Need-enum-known-selected
 enum-known-selected c = search needs
 
@@ -34,6 +37,7 @@ signature-check-spec =
     (tie.spec
     select-whole-requires
     enum-known-answer
+    refused-requires
     enum-known-selected
     write-selected-requires
     check-of-requires

@@ -4,6 +4,9 @@ use borrow.Author.Needs.{needs}
 use Rattle.mac.proofs.verdict.check_of.Statement.{statement}
 use Rattle.mac.proofs.verdict.check_of.Tie as tie
 
+refused-requires : tie.Need-refused-requires
+refused-requires c κs = search needs
+
 returns : tie.Need-returns
 returns c = search steps.check-refused
 
@@ -26,6 +29,7 @@ pub check-of-spec : {M : Type 1} → statement M
 check-of-spec =
     tie.close
     (tie.spec
+    refused-requires
     returns
     slice-aggregate-digest-by
     digest-by-requires

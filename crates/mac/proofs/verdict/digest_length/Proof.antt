@@ -1,6 +1,5 @@
 -- `digest_length` meets its contract. Assumes nothing.
 use Rattle.mac.proofs.laws.verdict.VerdictOfChecks as steps
-use borrow.Author.Needs.{needs}
 use Rattle.mac.proofs.verdict.digest_length.Statement.{statement}
 use Rattle.mac.proofs.verdict.digest_length.Tie as tie
 

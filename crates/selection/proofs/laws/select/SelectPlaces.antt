@@ -1,4 +1,4 @@
--- What 18 to 23 give, place by place of `select_from` and `select`, with the facts of the place as premises. Assumes nothing.
+-- What 18 to 23 give, place by place of `signature_item`, `select_from` and `select`, with the facts of the place as premises. Assumes nothing.
 use Prim.Native.Nat.{ℕ, _-_, _≤_}
 use mathlib.Core.Path.{_≡_, refl}
 use mathlib.Core.Bool.{Bool, true, false, _&&_}
@@ -12,21 +12,22 @@ use Rattle.slices.specs.If.{if_then_else_}
 use Rattle.answer.specs.Answer.{refused}
 use Rattle.slices.specs.Lists.{between}
 use Rattle.dataset.specs.Vr.{US}
-use Rattle.dataset.specs.Tree.{Elements, Items}
+use Rattle.dataset.specs.Tree.{Elements}
 use Rattle.dataset.specs.Reading.{Reading, fault, read, treeOf}
 use Rattle.dataset.specs.Lookup.{elementOf}
-use Rattle.selection.specs.Selection.{itemsOf, macIdOf, signatureItem, parametersItem, need, parametersSelect, selectIn}
+use Rattle.selection.specs.Selection.{itemsOf, itemWhere, macIdOf, signatureItem, parametersItem, need, parametersSelect, selectIn}
 use Rattle.dataset.specs.Tags.{macIdNumber, dataElementsSigned, macParametersSequence, digitalSignaturesSequence}
 use Rattle.dataset.specs.Extent.{elementsIn}
 use Rattle.dataset.specs.Place.{Lies, Placed, SoughtIn}
 use Rattle.dataset.specs.Inner.Place.{PlaceLies, Located}
-use Rattle.selection.specs.Inner.Selection.{firstWith, chosenBy, FoundItemAs, FoundItemUnder, ParametersSelected, SelectOf}
+use Rattle.selection.specs.Inner.Selection.{hasKey, FoundItemAs, FoundItemUnder, SignaturesAt, SignatureItemAt, ParametersSelected, SelectOf}
 use Rattle.selection.specs.Selected.{SelectedBy, SelectedIn}
 use Rattle.dataset.specs.declared.extent.Extent.{Extent}
 use Rattle.dataset.specs.declared.seek.Place.{Place}
 use Rattle.dataset.specs.declared.seek.Place.the-variants as place
 use Rattle.dataset.specs.declared.seek.Sought.{Sought}
 use Rattle.dataset.specs.declared.seek.Sought.the-variants as sought
+use Rattle.selection.specs.declared.items.ItemKey.{ItemKey}
 use Rattle.selection.specs.declared.items.ItemKey.the-variants as key
 use Rattle.selection.specs.declared.items.FoundItem.{FoundItem}
 use Rattle.selection.specs.declared.items.FoundItem.the-variants as found
@@ -39,7 +40,7 @@ use Rattle.selection.proofs.laws.items.MacIdTests.{two-bytes}
 
 -- ---- an item
 
--- what `find_item_under` has chosen, where o is the first item that is meant
+-- what is found, where o is the item that is meant
 record Picked (d : List ℕ) (o : Option Elements) (inside : Extent) (id list : Place) : Type 0 where
   elements : Elements
   same : o ≡ some elements
@@ -70,53 +71,58 @@ module _ (d : List ℕ) (r : FoundItem) where
         placed′ = rw e at (k .placed′);
       }
 
-module _ (d : List ℕ) (p : Place) (s : Located d p) (choose : Option Items → Option Elements) (r : FoundItem) (g : FoundItemUnder d p choose r) (inside : Extent) (id list : Place) (is : r ≡ found.Item inside id list) where
-  item : Picked d (choose (itemsOf (s .element))) inside id list
-  item = picked d r (choose (itemsOf (s .element))) inside id list (g .says (s .element) (s .placed)) is
+-- the signature item
+module _ (d : List ℕ) (p : Place) (s : SignaturesAt d p) (which : Signature) (r : FoundItem) (g : SignatureItemAt d which p r) (inside : Extent) (id list : Place) (is : r ≡ found.Item inside id list) where
+  picked-signature : Picked d (signatureItem which (s .elements)) inside id list
+  picked-signature = picked d r (signatureItem which (s .elements)) inside id list (g .says (s .elements) (s .placed)) is
 
-  pub item-lies : Lies d inside
-  item-lies = item .lies
+  pub signature-lies : Lies d inside
+  signature-lies = picked-signature .lies
 
-  item-id : PlaceLies d id
-  item-id = place-lies d id (record { element = elementOf macIdNumber (item .elements); placed = item .placed })
+  signature-id : PlaceLies d id
+  signature-id = place-lies d id (record { element = elementOf macIdNumber (picked-signature .elements); placed = picked-signature .placed })
 
   module _ (vr start end : ℕ) (k : id ≡ place.Value vr start end) where
     pub id-order : start ≤ end
-    id-order = value-order d id vr start end k item-id
+    id-order = value-order d id vr start end k signature-id
 
     pub id-inside : end ≤ length d
-    id-inside = value-inside d id vr start end k item-id
+    id-inside = value-inside d id vr start end k signature-id
 
-  pub item-list : PlaceLies d list
-  item-list = place-lies d list (record { element = elementOf dataElementsSigned (item .elements); placed = item .placed′ })
+-- the parameters item
+module _ (d : List ℕ) (p : Place) (s : Located d p) (w : ItemKey) (r : FoundItem) (g : FoundItemUnder d p w r) (inside : Extent) (id list : Place) (is : r ≡ found.Item inside id list) where
+  picked-parameters : Picked d (itemWhere (hasKey d w) (itemsOf (s .element))) inside id list
+  picked-parameters = picked d r (itemWhere (hasKey d w) (itemsOf (s .element))) inside id list (g .says (s .element) (s .placed)) is
 
--- ---- the signature item
+  pub parameters-lie : Lies d inside
+  parameters-lie = picked-parameters .lies
+
+  pub parameters-list : PlaceLies d list
+  parameters-list = place-lies d list (record { element = elementOf dataElementsSigned (picked-parameters .elements); placed = picked-parameters .placed′ })
+
+-- ---- `signature_item`
+pub signatures-lie : (d : List ℕ) (p : Place) → SignaturesAt d p → PlaceLies d p
+signatures-lie d p s = place-lies d p (record { element = elementOf digitalSignaturesSequence (s .elements); placed = s .placed })
+
 module _ (d : List ℕ) (which : Signature) (p : Place) (f : FoundItem) where
-  pub none-chosen : which ≡ signature.Unnamed → FoundItemUnder d p (firstWith d (key.Number 0)) f → FoundItemUnder d p (chosenBy which) f
-  none-chosen e g = record { says = λ o q. rw e (g .says o q) }
+  pub none-chosen : which ≡ signature.Unnamed → FoundItemUnder d p (key.Number 0) f → SignatureItemAt d which p f
+  unfolding signatureItem
+  none-chosen e g = record { says = λ es q. rw e (g .says (elementOf digitalSignaturesSequence es) q) }
 
-  pub number-chosen : (number : ℕ) → which ≡ signature.Number number → FoundItemUnder d p (firstWith d (key.Number number)) f → FoundItemUnder d p (chosenBy which) f
-  number-chosen number e g = record { says = λ o q. rw e (g .says o q) }
-
-chosen-is : (which : Signature) (es : Elements) → chosenBy which (itemsOf (elementOf digitalSignaturesSequence es)) ≡ signatureItem which es
-unfolding signatureItem
-chosen-is signature.Unnamed es = refl
-chosen-is (signature.Number number) es = refl
+  pub number-chosen : (number : ℕ) → which ≡ signature.Number number → FoundItemUnder d p (key.Number number) f → SignatureItemAt d which p f
+  unfolding signatureItem
+  number-chosen number e g = record { says = λ es q. rw e (g .says (elementOf digitalSignaturesSequence es) q) }
 
 -- ---- 18 to 23
-module _ (uid : List ℕ) (which : Signature) (d : List ℕ) (whole x : Extent) (parameters signatures : Place) (f : FoundItem) (g : FoundItemUnder d signatures (chosenBy which) f) where
-  module _ (es : Elements) (q : Placed d (elementOf digitalSignaturesSequence es) signatures) where
-    first : FoundItemAs d (signatureItem which es) f
-    first = rw (chosen-is which es) at (g .says (elementOf digitalSignaturesSequence es) q)
-
+module _ (uid : List ℕ) (which : Signature) (d : List ℕ) (whole x : Extent) (parameters signatures : Place) (f : FoundItem) (g : SignatureItemAt d which signatures f) where
   pub select-none : (r : Selection) → f ≡ found.Absent → r ≡ selection.Refused (refused 18 0) → SelectOf uid which d whole x parameters signatures r
   unfolding selectIn
-  select-none r is w = record { says = λ es n u p q. rw (picked-none d f (signatureItem which es) (first es q) is) w }
+  select-none r is w = record { says = λ es n u p q. rw (picked-none d f (signatureItem which es) (g .says es q) is) w }
 
   module _ (extent : Extent) (id list : Place) (is : f ≡ found.Item extent id list) where
     module _ (es : Elements) (q : Placed d (elementOf digitalSignaturesSequence es) signatures) where
       item-of : Picked d (signatureItem which es) extent id list
-      item-of = picked d f (signatureItem which es) extent id list (first es q) is
+      item-of = picked d f (signatureItem which es) extent id list (g .says es q) is
 
     pub select-no-value : (r : Selection) → NoValue id → r ≡ selection.Refused (refused 19 0) → SelectOf uid which d whole x parameters signatures r
     unfolding selectIn macIdOf
@@ -137,7 +143,7 @@ module _ (uid : List ℕ) (which : Signature) (d : List ℕ) (whole x : Extent) 
       unfolding selectIn if_then_else_
       select-other r t w = record { says = λ es n u p q. rw (item-of es q .same, number-of es q, t) w }
 
-      module _ (t : b ≡ true) (c : FoundItem) (h : FoundItemUnder d parameters (firstWith d (key.MacId start end)) c) where
+      module _ (t : b ≡ true) (c : FoundItem) (h : FoundItemUnder d parameters (key.MacId start end) c) where
         -- what is left of the selection: 20 to 23
         on : (all es : Elements) (q : Placed d (elementOf digitalSignaturesSequence es) signatures)
             → selectIn uid which all d es ≡ need 20 (parametersItem (between d start end) es d) (λ ps. parametersSelect uid d es (item-of es q .elements) ps)
@@ -169,6 +175,13 @@ module _ (uid : List ℕ) (which : Signature) (d : List ℕ) (whole x : Extent) 
       by-reading : (z : Reading Elements) → SoughtIn d macParametersSequence digitalSignaturesSequence z f → SelectedBy uid which d (treeOf (elementsIn d whole)) x z (selection.Refused a)
       by-reading (fault b) k = cc
       by-reading (read es n) k = never (cc (k .is))
+
+  pub signatures-stand : (first second : Place) (next : ℕ) → f ≡ sought.Past first second next → SignaturesAt d second
+  signatures-stand first second next is = by-reading (elementsIn d x) s
+    where
+      by-reading : (z : Reading Elements) → SoughtIn d macParametersSequence digitalSignaturesSequence z f → SignaturesAt d second
+      by-reading (fault b) k = never (cc)
+      by-reading (read es n) k = record { elements = es; placed = placed-second d _ _ es n f k first second next is }
 
   pub select-rest : (first second : Place) (next : ℕ) (r : Selection) → f ≡ sought.Past first second next → SelectOf uid which d whole x first second r
       → SelectedIn uid which d whole x r

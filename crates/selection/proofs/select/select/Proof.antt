@@ -15,7 +15,7 @@ enum-known-parameters : tie.Need-enum-known-parameters
 enum-known-parameters c = search needs
 
 select-from-requires : tie.Need-select-from-requires
-select-from-requires c κs = search (places.first-stands, places.second-stands, places.sought-lies)
+select-from-requires c κs = search (places.first-stands, steps.signatures-stand, places.sought-lies)
 
 returns : tie.Need-returns
 returns c = search steps.select-fault

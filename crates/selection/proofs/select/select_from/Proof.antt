@@ -7,7 +7,7 @@ use Rattle.selection.proofs.select.select_from.Statement.{statement}
 use Rattle.selection.proofs.select.select_from.Tie as tie
 
 signature-item-requires : tie.Need-signature-item-requires
-signature-item-requires c κs = search needs
+signature-item-requires c κs = search steps.signatures-lie
 
 enum-known-signature : tie.Need-enum-known-signature
 enum-known-signature c = search needs
@@ -55,7 +55,7 @@ returns-4 : tie.Need-returns-4
 returns-4 c = search (steps.select-no-parameters, not-false)
 
 select-parameters-requires : tie.Need-select-parameters-requires
-select-parameters-requires c κs = (search needs, search steps.item-lies, search steps.item-lies, search steps.item-list)
+select-parameters-requires c κs = (search needs, search steps.signature-lies, search steps.parameters-lie, search steps.parameters-list)
 
 returns-5 : tie.Need-returns-5
 returns-5 c = search (steps.select-list, not-false)

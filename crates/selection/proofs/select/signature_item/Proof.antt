@@ -1,5 +1,4 @@
 -- `signature_item` meets its contract: each place by its law in SelectPlaces. Assumes nothing.
-use Rattle.selection.proofs.laws.PlaceValues as places
 use Rattle.selection.proofs.laws.select.SelectPlaces as steps
 use borrow.Author.Needs.{needs}
 use Rattle.selection.proofs.select.signature_item.Statement.{statement}
@@ -9,13 +8,13 @@ enum-told : tie.Need-enum-told
 enum-told c = search needs
 
 find-item-under-requires : tie.Need-find-item-under-requires
-find-item-under-requires c κs = search places.place-lies
+find-item-under-requires c κs = search needs
 
 enum-known-which : tie.Need-enum-known-which
 enum-known-which c = search needs
 
 find-item-under-requires-2 : tie.Need-find-item-under-requires-2
-find-item-under-requires-2 c κs = search places.place-lies
+find-item-under-requires-2 c κs = search needs
 
 returns : tie.Need-returns
 returns c = search steps.none-chosen
