@@ -10,15 +10,15 @@ abbrev pub accepted : (length : ℕ) → Answer
 accepted length = record { number = 0; position = 0; length = length }
 
 -- the position that goes with a number. 9.1: "With number 0 the position is 0."
-abbrev pub positionFor : (number position : ℕ) → ℕ
-positionFor zero position = 0
-positionFor (suc n) position = position
+abbrev pub position_for : (number position : ℕ) → ℕ
+position_for zero position = 0
+position_for (suc n) position = position
 
 -- 1.6: "The length of a refusal is 0". 0 is no refusal: it gives what `accepted 0` is.
 abbrev pub refused : (number position : ℕ) → Answer
-refused number position = record { number = number; position = positionFor number position; length = 0 }
+refused number position = record { number = number; position = position_for number position; length = 0 }
 
 -- the first answer, or where it is accepted the second: refusals in their written order
-infixr 4 ◌orElse◌
-unfoldable pub ◌orElse◌ : Answer → Answer → Answer
+infixr 4 ◌or_else◌
+unfoldable pub ◌or_else◌ : Answer → Answer → Answer
 first or_else second = if eqb first.number 0 then second else first

@@ -12,19 +12,19 @@ use borrow.Author.Tests.{ltb-true, ltb-false}
 use Rattle.answer.specs.declared.Answer.{Answer}
 use Rattle.answer.specs.Answer as answer
 use Rattle.dataset.specs.Tree.{Element, Elements}
-use Rattle.dataset.specs.Lookup.{elementOf, foundOf, foundIn, found}
-use Rattle.dataset.proofs.laws.lookup.FindLoop.{found_inside}
-use Rattle.dataset.specs.Reading.{Reading, fault, read, One, ended, element, explicit, elementsAt, itemsAt, fragmentsAt, one_at, sizeLimit, levels, dataSet, answer_of, WellFormed}
+use Rattle.dataset.specs.Lookup.{element_of, found_of, found_in, found}
+use Rattle.dataset.proofs.Laws.Lookup.FindLoop.{found_inside}
+use Rattle.dataset.specs.Reading.{Reading, fault, read, One, ended, element, explicit, elements_at, items_at, fragments_at, one_at, size_limit, levels, data_set, answer_of, WellFormed}
 use Rattle.dataset.specs.Theorems.{EvenLength, Refusal, FaultsInExtents, ValueInside, Theorems}
-use Rattle.dataset.proofs.laws.reading.Bounded.{explicit-bounded}
-use Rattle.dataset.proofs.laws.reading.Within.{Within, FaultIn, OneIn, fragments-within, elements-within, items-within, one_in}
-use Rattle.dataset.proofs.laws.reading.Unfolding.{elements-enough, items-enough, fragments-enough, elements-are, items-are, fragments-are}
-use Rattle.dataset.proofs.laws.reading.Loops.{data-set-is, data-set-over}
-use Rattle.dataset.proofs.laws.reading.Guarantees.{data-set-read}
-use Rattle.dataset.proofs.laws.reading.Filled.{filled-is-read}
-use Rattle.dataset.proofs.laws.reading.FirstFault.{first-fault}
-use Rattle.dataset.proofs.laws.reading.Order.{elements-end}
-use Rattle.dataset.proofs.laws.reading.Levels.{levels-count}
+use Rattle.dataset.proofs.Laws.Reading.Bounded.{explicit-bounded}
+use Rattle.dataset.proofs.Laws.Reading.Within.{Within, FaultIn, OneIn, fragments-within, elements-within, items-within, one_in}
+use Rattle.dataset.proofs.Laws.Reading.Unfolding.{elements-enough, items-enough, fragments-enough, elements-are, items-are, fragments-are}
+use Rattle.dataset.proofs.Laws.Reading.Loops.{data-set-is, data-set-over}
+use Rattle.dataset.proofs.Laws.Reading.Guarantees.{data-set-read}
+use Rattle.dataset.proofs.Laws.Reading.Filled.{filled-is-read}
+use Rattle.dataset.proofs.Laws.Reading.FirstFault.{first-fault}
+use Rattle.dataset.proofs.Laws.Reading.Order.{elements-end}
+use Rattle.dataset.proofs.Laws.Reading.Levels.{levels-count}
 
 within-fault : {A : Type 0} (lo hi : ℕ) (p : Reading A) (f : Answer) → Within lo hi p → p ≡ fault f → FaultIn lo hi f
 within-fault lo hi (fault g) f w e = let q : g ≡ f = cc in rw (← q) w
@@ -37,19 +37,19 @@ pub record FaultIs (d : List ℕ) (f : Answer) : Type 0 where
   pub inside : f.position ≤ length d
   pub nothing : f.length ≡ 0
 
-pub faults-inside : (d : List ℕ) (f : Answer) → dataSet d ≡ fault f → FaultIs d f
-unfolding elementsAt
-faults-inside d f e = go (ltb sizeLimit (length d)) refl
+pub faults-inside : (d : List ℕ) (f : Answer) → data_set d ≡ fault f → FaultIs d f
+unfolding elements_at
+faults-inside d f e = go (ltb size_limit (length d)) refl
   where
-    go : (b : Bool) → ltb sizeLimit (length d) ≡ b → FaultIs d f
+    go : (b : Bool) → ltb size_limit (length d) ≡ b → FaultIs d f
     go true b =
-        let q : ◌≡◌ {A = Reading Elements} (fault (answer.refused 1 0)) (fault f) = sym (data-set-over d (ltb-true sizeLimit (length d) b)) ∙ e in
+        let q : ◌≡◌ {A = Reading Elements} (fault (answer.refused 1 0)) (fault f) = sym (data-set-over d (ltb-true size_limit (length d) b)) ∙ e in
         let z : answer.refused 1 0 ≡ f = cc in
         rw (← z) record { least = omega arith; most = omega arith; inside = omega arith; nothing = refl }
     go false b =
-        let w = within-fault 0 (length d) (elementsAt explicit d false levels (length d) 0 0) f
+        let w = within-fault 0 (length d) (elements_at explicit d false levels (length d) 0 0) f
         (elements-within explicit explicit-bounded (suc (length d - 0)) d false levels (length d) 0 0 (omega arith) (omega arith))
-        (sym (data-set-is d (ltb-false sizeLimit (length d) b)) ∙ e) in
+        (sym (data-set-is d (ltb-false size_limit (length d) b)) ∙ e) in
         record { least = omega (arith, w.least); most = w.most; inside = w.inside; nothing = w.nothing }
 
 one-fault : (lo hi : ℕ) (p : Reading One) (f : Answer) → OneIn lo hi p → p ≡ fault f → FaultIn lo hi f
@@ -58,29 +58,29 @@ one-fault lo hi (read ended n) f w e = absurd (true≢false (cc))
 one-fault lo hi (read (element x) n) f w e = absurd (true≢false (cc))
 
 refusal-in : (lo hi : ℕ) (f : Answer) → FaultIn lo hi f → Refusal 2 lo hi f
-refusal-in lo hi f w = record { fromLowest = w.least; upTo8 = w.most; after = w.order; inside = w.inside; noLength = w.nothing }
+refusal-in lo hi f w = record { from_lowest = w.least; up_to8 = w.most; after = w.order; inside = w.inside; no_length = w.nothing }
 
 faults-in-extents : FaultsInExtents
-unfolding elementsAt itemsAt fragmentsAt
+unfolding elements_at items_at fragments_at
 faults-in-extents d delimited left stop at h l = record {
   one = λ least f e. refusal-in at stop f
       (one-fault at stop (one_at explicit d delimited left stop at least) f (one_in explicit explicit-bounded d delimited left stop at least h) e);
   elements = λ least f e. refusal-in at stop f
-      (within-fault at stop (elementsAt explicit d delimited left stop at least) f (elements-within explicit explicit-bounded (suc (stop - at)) d delimited left stop at least h (omega arith)) e);
+      (within-fault at stop (elements_at explicit d delimited left stop at least) f (elements-within explicit explicit-bounded (suc (stop - at)) d delimited left stop at least h (omega arith)) e);
   items = λ f e. refusal-in at stop f
-      (within-fault at stop (itemsAt explicit d delimited left stop at) f (items-within explicit explicit-bounded (suc (stop - at)) d delimited left stop at h (omega arith)) e);
+      (within-fault at stop (items_at explicit d delimited left stop at) f (items-within explicit explicit-bounded (suc (stop - at)) d delimited left stop at h (omega arith)) e);
   fragments = λ f e. refusal-in at stop f
-      (within-fault at stop (fragmentsAt explicit d left stop at) f (fragments-within explicit explicit-bounded (suc (stop - at)) d left stop at h (omega arith)) e);
+      (within-fault at stop (fragments_at explicit d left stop at) f (fragments-within explicit explicit-bounded (suc (stop - at)) d left stop at h (omega arith)) e);
 }
 
 -- well-formed is what is answered with number 0
-pub well-formed-accepted : (d : List ℕ) → WellFormed d → answer_of (dataSet d) ≡ answer.accepted 0
+pub well-formed-accepted : (d : List ℕ) → WellFormed d → answer_of (data_set d) ≡ answer.accepted 0
 well-formed-accepted d w = ap answer_of w.2
 
-pub accepted-well-formed : (d : List ℕ) → answer_of (dataSet d) ≡ answer.accepted 0 → WellFormed d
-accepted-well-formed d w = go (dataSet d) refl
+pub accepted-well-formed : (d : List ℕ) → answer_of (data_set d) ≡ answer.accepted 0 → WellFormed d
+accepted-well-formed d w = go (data_set d) refl
   where
-    go : (p : Reading Elements) → dataSet d ≡ p → WellFormed d
+    go : (p : Reading Elements) → data_set d ≡ p → WellFormed d
     go (fault f) e =
         let r = faults-inside d f e in
         let z : f ≡ answer.accepted 0 = sym (ap answer_of e) ∙ w in
@@ -95,33 +95,33 @@ even-length d w =
     omega (arith, k.even, r.whole)
 
 value-inside : ValueInside
-unfolding found foundIn foundOf
-value-inside d tag = record { inside = found_inside d tag (found d tag) refl; answered = says (dataSet d); stands = go (dataSet d) refl; otherwise = other (dataSet d) }
+unfolding found found_in found_of
+value-inside d tag = record { inside = found_inside d tag (found d tag) refl; answered = says (data_set d); stands = go (data_set d) refl; otherwise = other (data_set d) }
   where
-    accepts : (o : Option Element) → (foundOf (length d) o).answer ≡ answer.accepted 0
+    accepts : (o : Option Element) → (found_of (length d) o).answer ≡ answer.accepted 0
     accepts Opt.none = refl
     accepts (some x) = refl
 
-    says : (p : Reading Elements) → (foundIn (length d) tag p).answer ≡ answer_of p
+    says : (p : Reading Elements) → (found_in (length d) tag p).answer ≡ answer_of p
     says (fault f) = refl
-    says (read es n) = accepts (elementOf tag es)
+    says (read es n) = accepts (element_of tag es)
 
-    go : (p : Reading Elements) → dataSet d ≡ p → (foundIn (length d) tag p).present ≡ true → WellFormed d
+    go : (p : Reading Elements) → data_set d ≡ p → (found_in (length d) tag p).present ≡ true → WellFormed d
     go (fault f) q e = absurd (false≢true e)
     go (read es n) q e = (es, n, q)
 
-    missing : (o : Option Element) → (foundOf (length d) o).present ≡ false → ((foundOf (length d) o).start ≡ length d) × ((foundOf (length d) o).length ≡ 0)
+    missing : (o : Option Element) → (found_of (length d) o).present ≡ false → ((found_of (length d) o).start ≡ length d) × ((found_of (length d) o).length ≡ 0)
     missing Opt.none e = (refl, refl)
     missing (some x) e = absurd (true≢false e)
 
-    other : (p : Reading Elements) → (foundIn (length d) tag p).present ≡ false → ((foundIn (length d) tag p).start ≡ length d) × ((foundIn (length d) tag p).length ≡ 0)
+    other : (p : Reading Elements) → (found_in (length d) tag p).present ≡ false → ((found_in (length d) tag p).start ≡ length d) × ((found_in (length d) tag p).length ≡ 0)
     other (fault f) e = (refl, refl)
-    other (read es n) e = missing (elementOf tag es) e
+    other (read es n) e = missing (element_of tag es) e
 
 pub theorems : Theorems
 theorems = record {
   even-length = even-length;
-  faults-inside = λ d f e. let r = faults-inside d f e in record { fromLowest = r.least; upTo8 = r.most; after = omega arith; inside = r.inside; noLength = r.nothing };
+  faults-inside = λ d f e. let r = faults-inside d f e in record { from_lowest = r.least; up_to8 = r.most; after = omega arith; inside = r.inside; no_length = r.nothing };
   faults-in-extents = faults-in-extents;
   in_order = λ d es next e. (data-set-read d es next e).fills;
   filled-is-read = filled-is-read;

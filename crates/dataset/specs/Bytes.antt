@@ -4,7 +4,7 @@ use Rattle.std.proofs.Math.Option.{Option, some}
 use Rattle.std.proofs.Math.Option as Opt
 use Rattle.slices.specs.If.{if◌then◌else◌}
 use Rattle.dataset.specs.declared.bytes.TagIn.{TagIn}
-use Rattle.dataset.specs.declared.bytes.TagIn.TheVariants as tagEnum
+use Rattle.dataset.specs.declared.bytes.TagIn.TheVariants as tag_enum
 
 -- the two-byte number at i, of group and element numbers, and lengths: "In group, element number and length the low byte comes first." (2.4)
 unfoldable pub num16 : List ℕ → ℕ → ℕ
@@ -19,18 +19,18 @@ unfoldable pub tag_at : List ℕ → ℕ → ℕ
 tag_at d i = num16 d i * 65536 + num16 d (i + 2)
 
 -- the tag at i, or none where four bytes do not stand there
-unfoldable pub tagIn : List ℕ → ℕ → Option ℕ
-tagIn s i = if leb (i + 4) (length s) then some (tag_at s i) else Opt.none
+unfoldable pub tag_in : List ℕ → ℕ → Option ℕ
+tag_in s i = if leb (i + 4) (length s) then some (tag_at s i) else Opt.none
 
 -- the cases of TagIn (src/bytes.rt), by their values (13.2)
-abbrev pub tagCase : TagIn → Option ℕ
-tagCase tagEnum.Absent = Opt.none
-tagCase (tagEnum.Tag tag) = some tag
+abbrev pub tag_case : TagIn → Option ℕ
+tag_case tag_enum.Absent = Opt.none
+tag_case (tag_enum.Tag tag) = some tag
 
 -- a VR by the codes of its two letters, as one number
 abbrev pub vr : (first second : ℕ) → ℕ
 vr first second = first * 256 + second
 
 -- the VR of the element at i: "two letters for its VR" (2.4)
-unfoldable pub vrAt : List ℕ → ℕ → ℕ
-vrAt d i = vr (get_or d (i + 4) 0) (get_or d (i + 5) 0)
+unfoldable pub vr_at : List ℕ → ℕ → ℕ
+vr_at d i = vr (get_or d (i + 4) 0) (get_or d (i + 5) 0)

@@ -11,15 +11,15 @@ use Rattle.std.specs.Prelude.{ℕ, ◌+◌, ◌-◌, ◌%◌, Bool, true, false,
 use Rattle.slices.specs.If.{if◌then◌else◌}
 use Rattle.answer.specs.declared.Answer.{Answer}
 use Rattle.answer.specs.Answer as answer
-use Rattle.dataset.specs.Bytes.{num16, num32, tag_at, vrAt}
-use Rattle.dataset.specs.Tags.{itemTag, itemDelimitationItem, sequenceDelimitationItem}
+use Rattle.dataset.specs.Bytes.{num16, num32, tag_at, vr_at}
+use Rattle.dataset.specs.Tags.{item_tag, item_delimitation_item, sequence_delimitation_item}
 use Rattle.dataset.specs.Vr.{form_of, OB, SQ}
 use Rattle.dataset.specs.declared.vr.Form.{Form}
 use Rattle.dataset.specs.declared.vr.Form.TheVariants.{Short, Long, Neither}
-use Rattle.dataset.specs.declared.header.ElementHeader as elementEnum
-use Rattle.dataset.specs.declared.header.ElementHeader.TheVariants as elementHeader
-use Rattle.dataset.specs.declared.header.ItemHeader as itemEnum
-use Rattle.dataset.specs.declared.header.ItemHeader.TheVariants as itemHeader
+use Rattle.dataset.specs.declared.header.ElementHeader as element_enum
+use Rattle.dataset.specs.declared.header.ElementHeader.TheVariants as element_header
+use Rattle.dataset.specs.declared.header.ItemHeader as item_enum
+use Rattle.dataset.specs.declared.header.ItemHeader.TheVariants as item_header
 
 -- ---- what stands at a place
 
@@ -41,21 +41,21 @@ pub data ItemHeader : Type 0 where
   item : (start end : ℕ) (delimited : Bool) → ItemHeader
 
 -- the cases of the two enums of src/header.rt, by their values (13.2); a refusal has its number, every other case number 0
-abbrev pub elementCase : elementEnum.ElementHeader → ElementHeader
-elementCase (elementHeader.Refused number position) = ElementHeader.refused number position
-elementCase (elementHeader.End next) = ElementHeader.ends next
-elementCase (elementHeader.Value tag vr start end) = ElementHeader.value tag vr start end
-elementCase (elementHeader.Sequence tag start end delimited) = ElementHeader.sequence tag start end delimited
-elementCase (elementHeader.Fragments tag start) = ElementHeader.fragments tag start
+abbrev pub element_case : element_enum.ElementHeader → ElementHeader
+element_case (element_header.Refused number position) = ElementHeader.refused number position
+element_case (element_header.End next) = ElementHeader.ends next
+element_case (element_header.Value tag vr start end) = ElementHeader.value tag vr start end
+element_case (element_header.Sequence tag start end delimited) = ElementHeader.sequence tag start end delimited
+element_case (element_header.Fragments tag start) = ElementHeader.fragments tag start
 
-abbrev pub itemCase : itemEnum.ItemHeader → ItemHeader
-itemCase (itemHeader.Refused number position) = ItemHeader.refused number position
-itemCase (itemHeader.End next) = ItemHeader.ends next
-itemCase (itemHeader.Item start end delimited) = ItemHeader.item start end delimited
+abbrev pub item_case : item_enum.ItemHeader → ItemHeader
+item_case (item_header.Refused number position) = ItemHeader.refused number position
+item_case (item_header.End next) = ItemHeader.ends next
+item_case (item_header.Item start end delimited) = ItemHeader.item start end delimited
 
 -- The fault of a refused header, with "the offset of the header at which it is found" (2.20): every fault of the reading but 1 is this one.
-abbrev pub faultAt : (number position : ℕ) → Answer
-faultAt number position = answer.refused number position
+abbrev pub fault_at : (number position : ℕ) → Answer
+fault_at number position = answer.refused number position
 
 -- ---- what the headers share
 
@@ -73,86 +73,86 @@ unfoldable pub ends_at : (delimited : Bool) (stop at : ℕ) → Bool
 ends_at delimited stop at = not delimited && eqb at stop
 
 -- the delimiter stands at `at`, "with length 0" (2.14, 2.15, 2.17), in an extent that it ends (`delimited`)
-unfoldable pub closedBy : List ℕ → (delimiter : ℕ) (delimited : Bool) (at : ℕ) → Bool
-closedBy d delimiter delimited at = delimited && (eqb (tag_at d at) delimiter && eqb (num32 d (at + 4)) 0)
+unfoldable pub closed_by : List ℕ → (delimiter : ℕ) (delimited : Bool) (at : ℕ) → Bool
+closed_by d delimiter delimited at = delimited && (eqb (tag_at d at) delimiter && eqb (num32 d (at + 4)) 0)
 
 -- ---- an element
 
 -- 2.11g: "the length is undefined and the VR neither SQ nor OB, or the length is defined and odd"
-unfoldable pub badLength : (vr len : ℕ) → Bool
-badLength vr len = if eqb len undefined then not (eqb vr SQ || eqb vr OB) else eqb (len % 2) 1
+unfoldable pub bad_length : (vr len : ℕ) → Bool
+bad_length vr len = if eqb len undefined then not (eqb vr SQ || eqb vr OB) else eqb (len % 2) 1
 
 -- 2.11h: "it is an SQ at level 16"
-unfoldable pub tooDeep : (vr left : ℕ) → Bool
-tooDeep vr left = eqb vr SQ && eqb left 0
+unfoldable pub too_deep : (vr left : ℕ) → Bool
+too_deep vr left = eqb vr SQ && eqb left 0
 
--- An undefined length. SQ: its items, up to a sequence delimiter inside the extent. Otherwise OB (`badLength` lets no other VR pass): its
+-- An undefined length. SQ: its items, up to a sequence delimiter inside the extent. Otherwise OB (`bad_length` lets no other VR pass): its
 -- fragments, likewise. `stop` stands for the end that an undefined length does not set (docs/DECISIONS.md, R1).
-unfoldable pub undefinedBy : (tag vr stop start : ℕ) → ElementHeader
-undefinedBy tag vr stop start = if eqb vr SQ then ElementHeader.sequence tag start stop true else ElementHeader.fragments tag start
+unfoldable pub undefined_by : (tag vr stop start : ℕ) → ElementHeader
+undefined_by tag vr stop start = if eqb vr SQ then ElementHeader.sequence tag start stop true else ElementHeader.fragments tag start
 
 -- A defined length. SQ: its items, up to `end`. Any other VR: a value that is not looked into.
-unfoldable pub definedBy : (tag vr start end : ℕ) → ElementHeader
-definedBy tag vr start end = if eqb vr SQ then ElementHeader.sequence tag start end false else ElementHeader.value tag vr start end
+unfoldable pub defined_by : (tag vr start end : ℕ) → ElementHeader
+defined_by tag vr start end = if eqb vr SQ then ElementHeader.sequence tag start end false else ElementHeader.value tag vr start end
 
 -- 2.11g, 2.11h, and 2.11i: "the length is defined, and the value ends past the extent"
-unfoldable pub valueBy : (tag vr left stop at start len : ℕ) → ElementHeader
-valueBy tag vr left stop at start len =
-    if badLength vr len then ElementHeader.refused 7 at else
-    if tooDeep vr left then ElementHeader.refused 8 at else
-    if eqb len undefined then undefinedBy tag vr stop start else
+unfoldable pub value_by : (tag vr left stop at start len : ℕ) → ElementHeader
+value_by tag vr left stop at start len =
+    if bad_length vr len then ElementHeader.refused 7 at else
+    if too_deep vr left then ElementHeader.refused 8 at else
+    if eqb len undefined then undefined_by tag vr stop start else
     if ltb (stop - start) len then ElementHeader.refused 2 at else
-    definedBy tag vr start (start + len)
+    defined_by tag vr start (start + len)
 
 -- 2.11e: "the form is long, and fewer than 12 bytes are left"; 2.11f: "the reserved bytes are not zero"
-unfoldable pub longAt : List ℕ → (tag vr left stop at : ℕ) → ElementHeader
-longAt d tag vr left stop at =
+unfoldable pub long_at : List ℕ → (tag vr left stop at : ℕ) → ElementHeader
+long_at d tag vr left stop at =
     if ltb (stop - at) 12 then ElementHeader.refused 2 at else
     if not (eqb (num16 d (at + 6)) 0) then ElementHeader.refused 6 at else
-    valueBy tag vr left stop at (at + 12) (num32 d (at + 8))
+    value_by tag vr left stop at (at + 12) (num32 d (at + 8))
 
 -- 2.11d: "the VR is neither in 2.6 nor in 2.7"
-unfoldable pub byForm : Form → List ℕ → (tag vr left stop at : ℕ) → ElementHeader
-byForm Short d tag vr left stop at = valueBy tag vr left stop at (at + 8) (num16 d (at + 6))
-byForm Long d tag vr left stop at = longAt d tag vr left stop at
-byForm Neither d tag vr left stop at = ElementHeader.refused 5 at
+unfoldable pub by_form : Form → List ℕ → (tag vr left stop at : ℕ) → ElementHeader
+by_form Short d tag vr left stop at = value_by tag vr left stop at (at + 8) (num16 d (at + 6))
+by_form Long d tag vr left stop at = long_at d tag vr left stop at
+by_form Neither d tag vr left stop at = ElementHeader.refused 5 at
 
 -- the checks from the VR on, by the VR that stands there
-unfoldable pub vrOnAt : List ℕ → (tag left stop at : ℕ) → ElementHeader
-vrOnAt d tag left stop at = byForm (form_of (vrAt d at)) d tag (vrAt d at) left stop at
+unfoldable pub vr_on_at : List ℕ → (tag left stop at : ℕ) → ElementHeader
+vr_on_at d tag left stop at = by_form (form_of (vr_at d at)) d tag (vr_at d at) left stop at
 
 -- What stands at `at` in an element's place, in an extent that ends at `stop`, or before it at an item delimiter (`delimited`).
 -- 2.11a: "fewer than 8 bytes are left in the extent"; the delimiter "is tested for right after 2.11a" (2.14); 2.11b: "the group is FFFE";
 -- 2.11c: "the tag is not above that of the element before it in the same data set"
-unfoldable pub elementAt : List ℕ → (delimited : Bool) (left stop at least : ℕ) → ElementHeader
-elementAt d delimited left stop at least =
+unfoldable pub element_at : List ℕ → (delimited : Bool) (left stop at least : ℕ) → ElementHeader
+element_at d delimited left stop at least =
     if outside d stop at then ElementHeader.refused 2 at else
     if ends_at delimited stop at then ElementHeader.ends at else
     if ltb (stop - at) 8 then ElementHeader.refused 2 at else
-    if closedBy d itemDelimitationItem delimited at then ElementHeader.ends (at + 8) else
+    if closed_by d item_delimitation_item delimited at then ElementHeader.ends (at + 8) else
     if eqb (num16 d at) 0xFFFE then ElementHeader.refused 3 at else
     if ltb (tag_at d at) least then ElementHeader.refused 4 at else
-    vrOnAt d (tag_at d at) left stop at
+    vr_on_at d (tag_at d at) left stop at
 
 -- ---- an item or a fragment
 
 -- "an odd one gives 7", and one that does not end inside the extent 2 (2.13); "A fragment whose length is undefined or odd gives 7." (2.18):
 -- FFFFFFFF is odd. `stop` stands for the end that an undefined length does not set (docs/DECISIONS.md, R1).
-unfoldable pub itemBy : (inSequence : Bool) (stop at start len : ℕ) → ItemHeader
-itemBy inSequence stop at start len =
-    if eqb len undefined && inSequence then ItemHeader.item start stop true else
+unfoldable pub item_by : (in_sequence : Bool) (stop at start len : ℕ) → ItemHeader
+item_by in_sequence stop at start len =
+    if eqb len undefined && in_sequence then ItemHeader.item start stop true else
     if eqb (len % 2) 1 then ItemHeader.refused 7 at else
     if ltb (stop - start) len then ItemHeader.refused 2 at else
     ItemHeader.item start (start + len) false
 
--- What stands at `at` in the place of an item of a sequence (`inSequence`) or of a fragment, in an extent that ends at `stop`, or
+-- What stands at `at` in the place of an item of a sequence (`in_sequence`) or of a fragment, in an extent that ends at `stop`, or
 -- before it at a sequence delimiter (`delimited`). "Where fewer than 8 are left, it gives 2." (2.12); "every tag but an item's or the due
 -- delimiter's gives 3" (2.16)
-unfoldable pub item_at : List ℕ → (inSequence delimited : Bool) (stop at : ℕ) → ItemHeader
-item_at d inSequence delimited stop at =
+unfoldable pub item_at : List ℕ → (in_sequence delimited : Bool) (stop at : ℕ) → ItemHeader
+item_at d in_sequence delimited stop at =
     if outside d stop at then ItemHeader.refused 2 at else
     if ends_at delimited stop at then ItemHeader.ends at else
     if ltb (stop - at) 8 then ItemHeader.refused 2 at else
-    if closedBy d sequenceDelimitationItem delimited at then ItemHeader.ends (at + 8) else
-    if not (eqb (tag_at d at) itemTag) then ItemHeader.refused 3 at else
-    itemBy inSequence stop at (at + 8) (num32 d (at + 4))
+    if closed_by d sequence_delimitation_item delimited at then ItemHeader.ends (at + 8) else
+    if not (eqb (tag_at d at) item_tag) then ItemHeader.refused 3 at else
+    item_by in_sequence stop at (at + 8) (num32 d (at + 4))

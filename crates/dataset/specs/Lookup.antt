@@ -7,15 +7,15 @@ use Rattle.answer.specs.Answer as answer
 use Rattle.slices.specs.If.{if◌then◌else◌}
 use Rattle.slices.specs.Lists.{between}
 use Rattle.dataset.specs.Tree.{Element, Elements, none, and, tag_of, span_of}
-use Rattle.dataset.specs.Reading.{Reading, fault, read, dataSet}
+use Rattle.dataset.specs.Reading.{Reading, fault, read, data_set}
 use Rattle.dataset.specs.declared.lookup.Found.{Found}
 
 -- Found (src/lookup.rt): answer present start length
 
 -- the element of "a tag at the top level" (3.1): items are not searched
-unfoldable pub elementOf : (tag : ℕ) → Elements → Option Element
-elementOf tag none = Opt.none
-elementOf tag (and e rest) = if eqb (tag_of e) tag then some e else elementOf tag rest
+unfoldable pub element_of : (tag : ℕ) → Elements → Option Element
+element_of tag none = Opt.none
+element_of tag (and e rest) = if eqb (tag_of e) tag then some e else element_of tag rest
 
 -- 3.2: "the part has no bytes and lies at the data set's end", and a no
 abbrev pub absent : Answer → (size : ℕ) → Found
@@ -27,18 +27,18 @@ abbrev pub present : (start end : ℕ) → Found
 present start end = record { answer = answer.accepted 0; present = true; start = start; length = end - start }
 
 -- what is handed back for a well-formed data set of `size` bytes: by its element with the tag, or none
-unfoldable pub foundOf : (size : ℕ) → Option Element → Found
-foundOf size Opt.none = absent (answer.accepted 0) size
-foundOf size (some e) = present (span_of e).start (span_of e).end
+unfoldable pub found_of : (size : ℕ) → Option Element → Found
+found_of size Opt.none = absent (answer.accepted 0) size
+found_of size (some e) = present (span_of e).start (span_of e).end
 
 -- 3.3: "the reading's number (0 to 8) and position, and a yes or no that says if the tag was found"
-unfoldable pub foundIn : (size tag : ℕ) → Reading Elements → Found
-foundIn size tag (fault f) = absent f size
-foundIn size tag (read es next) = foundOf size (elementOf tag es)
+unfoldable pub found_in : (size tag : ℕ) → Reading Elements → Found
+found_in size tag (fault f) = absent f size
+found_in size tag (read es next) = found_of size (element_of tag es)
 
 -- the lookup of a tag in a data set: one reading of the whole
 unfoldable pub found : List ℕ → (tag : ℕ) → Found
-found d tag = foundIn (length d) tag (dataSet d)
+found d tag = found_in (length d) tag (data_set d)
 
 -- What lookup hands back: a part of the lent data set, not a copy, by its offset and its length; beside it the number, the position and the
 -- yes or no. A place is a block of memory and an offset in it: `lent` is where the data set starts, `place` where the part starts.

@@ -2,10 +2,10 @@
 -- `FilledIsRead` of Theorems.antt). Assumes nothing.
 use Rattle.std.specs.Prelude.{ℕ, ◌+◌, ◌-◌, ◌%◌, ◌≤◌, ◌<◌, ◌≡◌, ◌≢◌, Bool, true, false, List, [], ◌∷◌}
 use Rattle.slices.specs.If.{if◌then◌else◌}
-use Rattle.dataset.specs.Bytes.{num16, num32, tag_at, vrAt}
+use Rattle.dataset.specs.Bytes.{num16, num32, tag_at, vr_at}
 use Rattle.dataset.specs.Vr.{OB, SQ, form_of}
 use Rattle.dataset.specs.Header.{undefined}
-use Rattle.dataset.specs.Tags.{itemTag, itemDelimitationItem, sequenceDelimitationItem}
+use Rattle.dataset.specs.Tags.{item_tag, item_delimitation_item, sequence_delimitation_item}
 use Rattle.dataset.specs.Reading.{deeper}
 use Rattle.dataset.specs.Tree.{Span, Element, value, sequence, fragments, Elements, none, and, Items, last, item, tag_of}
 use Rattle.dataset.specs.declared.vr.Form.{Form}
@@ -26,7 +26,7 @@ Sized Neither d at start n = ⊥
 -- a value that is not looked into, of even length, in an extent that ends at `stop`
 pub record ValueAt (d : List ℕ) (stop at tag vr start end : ℕ) : Type 0 where
   pub tagged : Tagged d at tag
-  pub letters : vr ≡ vrAt d at
+  pub letters : vr ≡ vr_at d at
   pub form : Sized (form_of vr) d at start (end - start)
   pub plain : vr ≢ SQ
   pub order : start ≤ end
@@ -36,7 +36,7 @@ pub record ValueAt (d : List ℕ) (stop at tag vr start end : ℕ) : Type 0 wher
 -- an SQ, or an OB in fragments, whose inside starts at `start`
 pub record NestAt (d : List ℕ) (stop at tag vr start : ℕ) : Type 0 where
   pub tagged : Tagged d at tag
-  pub letters : vrAt d at ≡ vr
+  pub letters : vr_at d at ≡ vr
   pub reserved : num16 d (at + 6) ≡ 0
   pub starts : start ≡ at + 12
   pub inside : start ≤ stop
@@ -55,9 +55,9 @@ EndsIn d delimiter false stop at next = (at ≡ stop) × (next ≡ at)
 
 -- fragments, each after the one before it, from `at` to what follows their delimiter at `next`, in an extent up to `stop`
 unfoldable pub FragmentsFill : List Span → List ℕ → (stop at next : ℕ) → Type 0
-FragmentsFill [] d stop at next = EndsIn d sequenceDelimitationItem true stop at next
+FragmentsFill [] d stop at next = EndsIn d sequence_delimitation_item true stop at next
 FragmentsFill (s ∷ ss) d stop at next =
-    (tag_at d at ≡ itemTag) × (s.start ≡ at + 8) × HeaderExtent (num32 d (at + 4)) stop s.start s.end false × FragmentsFill ss d stop s.end next
+    (tag_at d at ≡ item_tag) × (s.start ≡ at + 8) × HeaderExtent (num32 d (at + 4)) stop s.start s.end false × FragmentsFill ss d stop s.end next
 
 -- An element, elements and items from `at` to what follows them at `next`, with `left` levels, in an extent up to `stop`, or before it at
 -- a delimiter (`delimited`): each part starts where the one before it ends, an element's tag is at least `least`, and the tags of one
@@ -76,12 +76,12 @@ unfoldable mutual
       × (span.end ≡ next - 8)
 
   pub ElementsFill : Elements → List ℕ → (delimited : Bool) (left stop at least next : ℕ) → Type 0
-  ElementsFill none d delimited left stop at least next = EndsIn d itemDelimitationItem delimited stop at next
+  ElementsFill none d delimited left stop at least next = EndsIn d item_delimitation_item delimited stop at next
   ElementsFill (and e rest) d delimited left stop at least next =
       (mid : ℕ) × (least ≤ tag_of e) × ElementFills e d left stop at mid × ElementsFill rest d delimited left stop mid (tag_of e + 1) next
 
   pub ItemsFill : Items → List ℕ → (delimited : Bool) (left stop at next : ℕ) → Type 0
-  ItemsFill last d delimited left stop at next = EndsIn d sequenceDelimitationItem delimited stop at next
+  ItemsFill last d delimited left stop at next = EndsIn d sequence_delimitation_item delimited stop at next
   ItemsFill (item p elements rest) d delimited left stop at next =
-      (inner : Bool) × (end : ℕ) × (mid : ℕ) × (p ≡ at) × (tag_at d at ≡ itemTag) × HeaderExtent (num32 d (at + 4)) stop (at + 8) end inner
+      (inner : Bool) × (end : ℕ) × (mid : ℕ) × (p ≡ at) × (tag_at d at ≡ item_tag) × HeaderExtent (num32 d (at + 4)) stop (at + 8) end inner
       × ElementsFill elements d inner (deeper left) end (at + 8) 0 mid × ItemsFill rest d delimited left stop mid next

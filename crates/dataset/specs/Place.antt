@@ -7,7 +7,7 @@ use Rattle.std.proofs.Math.Option as Opt
 use Rattle.slices.specs.If.{if◌then◌else◌}
 use Rattle.dataset.specs.Tree.{Span, Element, Elements, Items}
 use Rattle.dataset.specs.Reading.{Reading, fault, read}
-use Rattle.dataset.specs.Lookup.{elementOf}
+use Rattle.dataset.specs.Lookup.{element_of}
 use Rattle.dataset.specs.Extent.{items_in}
 use Rattle.dataset.specs.declared.extent.Extent.{Extent}
 use Rattle.dataset.specs.declared.seek.Place.{Place}
@@ -45,8 +45,8 @@ pub record SoughtAs (d : List ℕ) (tag tag' : ℕ) (es : Elements) (next : ℕ)
   pub first : Place
   pub second : Place
   pub is : r ≡ sought.Past first second next
-  pub placed : Placed d (elementOf tag es) first
-  pub placed' : Placed d (elementOf tag' es) second
+  pub placed : Placed d (element_of tag es) first
+  pub placed' : Placed d (element_of tag' es) second
 
 -- by the reading of the data set: its fault, or that
 abbrev pub SoughtIn : List ℕ → (tag tag' : ℕ) → Reading Elements → Sought → Type 0

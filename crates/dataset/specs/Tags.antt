@@ -3,51 +3,51 @@
 -- Assumes nothing.
 use Rattle.std.specs.Prelude.{ℕ}
 
-abbrev pub lengthToEnd : ℕ
-lengthToEnd = 0x00080001
+abbrev pub length_to_end : ℕ
+length_to_end = 0x00080001
 
-abbrev pub macIdNumber : ℕ
-macIdNumber = 0x04000005
+abbrev pub mac_id_number : ℕ
+mac_id_number = 0x04000005
 
-abbrev pub macCalculationTransferSyntaxUid : ℕ
-macCalculationTransferSyntaxUid = 0x04000010
+abbrev pub mac_calculation_transfer_syntax_uid : ℕ
+mac_calculation_transfer_syntax_uid = 0x04000010
 
-abbrev pub macAlgorithm : ℕ
-macAlgorithm = 0x04000015
+abbrev pub mac_algorithm : ℕ
+mac_algorithm = 0x04000015
 
-abbrev pub dataElementsSigned : ℕ
-dataElementsSigned = 0x04000020
+abbrev pub data_elements_signed : ℕ
+data_elements_signed = 0x04000020
 
-abbrev pub certificateOfSigner : ℕ
-certificateOfSigner = 0x04000115
+abbrev pub certificate_of_signer : ℕ
+certificate_of_signer = 0x04000115
 
 -- "Signature" in the data dictionary; the word alone would be mistaken for the caller's choice
-abbrev pub signatureValue : ℕ
-signatureValue = 0x04000120
+abbrev pub signature_value : ℕ
+signature_value = 0x04000120
 
-abbrev pub certifiedTimestampType : ℕ
-certifiedTimestampType = 0x04000305
+abbrev pub certified_timestamp_type : ℕ
+certified_timestamp_type = 0x04000305
 
-abbrev pub certifiedTimestamp : ℕ
-certifiedTimestamp = 0x04000310
+abbrev pub certified_timestamp : ℕ
+certified_timestamp = 0x04000310
 
-abbrev pub macParametersSequence : ℕ
-macParametersSequence = 0x4FFE0001
+abbrev pub mac_parameters_sequence : ℕ
+mac_parameters_sequence = 0x4FFE0001
 
-abbrev pub digitalSignaturesSequence : ℕ
-digitalSignaturesSequence = 0xFFFAFFFA
+abbrev pub digital_signatures_sequence : ℕ
+digital_signatures_sequence = 0xFFFAFFFA
 
-abbrev pub dataSetTrailingPadding : ℕ
-dataSetTrailingPadding = 0xFFFCFFFC
+abbrev pub data_set_trailing_padding : ℕ
+data_set_trailing_padding = 0xFFFCFFFC
 
 -- "Item" in the data dictionary; before each item and fragment (2.12)
-abbrev pub itemTag : ℕ
-itemTag = 0xFFFEE000
+abbrev pub item_tag : ℕ
+item_tag = 0xFFFEE000
 
 -- the item delimiter of RULES (2.14)
-abbrev pub itemDelimitationItem : ℕ
-itemDelimitationItem = 0xFFFEE00D
+abbrev pub item_delimitation_item : ℕ
+item_delimitation_item = 0xFFFEE00D
 
 -- the sequence delimiter of RULES (2.15); it ends fragments too (2.17)
-abbrev pub sequenceDelimitationItem : ℕ
-sequenceDelimitationItem = 0xFFFEE0DD
+abbrev pub sequence_delimitation_item : ℕ
+sequence_delimitation_item = 0xFFFEE0DD

@@ -33,10 +33,10 @@ tag_of (sequence at tag span items) = tag
 tag_of (fragments at tag span parts) = tag
 
 -- a sequence's VR is SQ; only OB is in fragments
-abbrev pub vrOf : Element → ℕ
-vrOf (value at tag vr span) = vr
-vrOf (sequence at tag span items) = SQ
-vrOf (fragments at tag span parts) = OB
+abbrev pub vr_of : Element → ℕ
+vr_of (value at tag vr span) = vr
+vr_of (sequence at tag span items) = SQ
+vr_of (fragments at tag span parts) = OB
 
 abbrev pub span_of : Element → Span
 span_of (value at tag vr span) = span

@@ -61,14 +61,14 @@ abbrev W : ℕ
 W = 0x57
 
 -- 2.6: "Short form, with a length of two bytes: AE AS AT CS DA DS DT FL FD IS LO LT PN SH SL SS ST TM UI UL US."
-abbrev pub shortForm : List ℕ
-shortForm =
+abbrev pub short_form : List ℕ
+short_form =
     vr A E ∷ vr A S ∷ vr A T ∷ vr C S ∷ vr D A ∷ vr D S ∷ vr D T ∷ vr F L ∷ vr F D ∷ vr I S ∷ vr L O ∷ vr L T ∷ vr P N
     ∷ vr S H ∷ vr S L ∷ vr S S ∷ vr S T ∷ vr T M ∷ vr U I ∷ vr U L ∷ vr U S ∷ []
 
 -- 2.7: "Long form, with two reserved bytes, both zero, and then a length of four bytes: OB OW OF SQ UT UN."
-abbrev pub longForm : List ℕ
-longForm = vr O B ∷ vr O W ∷ vr O F ∷ vr S Q ∷ vr U T ∷ vr U N ∷ []
+abbrev pub long_form : List ℕ
+long_form = vr O B ∷ vr O W ∷ vr O F ∷ vr S Q ∷ vr U T ∷ vr U N ∷ []
 
 -- the VRs that the rules name
 abbrev pub AT : ℕ
@@ -99,4 +99,4 @@ one_of v (x ∷ xs) = eqb v x || one_of v xs
 
 -- the form of a VR's header; or neither, where the VR is in neither list
 unfoldable pub form_of : ℕ → Form
-form_of v = if one_of v shortForm then Short else if one_of v longForm then Long else Neither
+form_of v = if one_of v short_form then Short else if one_of v long_form then Long else Neither

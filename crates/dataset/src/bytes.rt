@@ -1,6 +1,6 @@
 // Numbers, tags and VRs in a data set: a number's low byte first, a VR's first letter first.
 ghost use Rattle.std.specs.Prelude.{◌≡◌, ◌+◌, ◌<◌, ◌≤◌, length};
-ghost use Rattle.dataset.specs.Bytes.{num16, num32, tag_at, tagIn, tagCase, vrAt};
+ghost use Rattle.dataset.specs.Bytes.{num16, num32, tag_at, tag_in, tag_case, vr_at};
 
 // The tag at a place, or none.
 #[derive(Drop)]
@@ -47,7 +47,7 @@ pub(crate) fn tag_at(d: &[u8], i: usize) -> u32
 
 // The tag at i, or none where four bytes do not stand there.
 pub fn tag_in(s: &[u8], i: usize) -> TagIn
-    ensures { tagCase result ≡ tagIn s.now i }
+    ensures { tag_case result ≡ tag_in s.now i }
 {
     if s.len() < 4 {
         return TagIn::Absent;
@@ -61,7 +61,7 @@ pub fn tag_in(s: &[u8], i: usize) -> TagIn
 // The VR of the element at i.
 pub(crate) fn vr_at(d: &[u8], i: usize) -> u16
     requires { i + 6 ≤ length d.now }
-    ensures { result ≡ vrAt d.now i }
+    ensures { result ≡ vr_at d.now i }
 {
     wide16(d[i + 4]) * 256 + wide16(d[i + 5])
 }

@@ -1,6 +1,6 @@
 // Where a data set, or the items of a sequence, lie; and the extent of one item.
 ghost use Rattle.std.specs.Prelude.{◌≡◌};
-ghost use Rattle.dataset.specs.Extent.{whole_of, outsideAnswer, openedItem, openedCase};
+ghost use Rattle.dataset.specs.Extent.{whole_of, outside_answer, opened_item, opened_case};
 
 use crate::header::ItemHeader;
 use crate::{header, reading};
@@ -40,7 +40,7 @@ pub fn whole(size: usize) -> Extent
 
 // 2, where an extent does not lie inside the data. Whoever walks over a data set in an extent that a caller gives asks this first.
 pub fn outside_answer(d: &[u8], x: Extent) -> Answer
-    ensures { result ≡ outsideAnswer d.now x }
+    ensures { result ≡ outside_answer d.now x }
 {
     if header::is_outside(d, x.stop, x.from) {
         return header::fault(2, x.from);
@@ -50,7 +50,7 @@ pub fn outside_answer(d: &[u8], x: Extent) -> Answer
 
 // What stands at `at` in an item's place, among items that lie in x.
 pub fn open_item(d: &[u8], x: Extent, at: usize) -> OpenedItem
-    ensures { openedCase result ≡ openedItem d.now x at }
+    ensures { opened_case result ≡ opened_item d.now x at }
 {
     match header::item_header(d, true, x.delimited, x.stop, at) {
         ItemHeader::Refused { number, position } => OpenedItem::Refused(header::fault(

@@ -1,7 +1,7 @@
 // What stands at an offset of a data set, in an element's place or in an item's: the checks of one header, in their order.
 ghost use Rattle.std.specs.Prelude.{◌≡◌, ◌+◌, ◌≤◌, length};
 ghost use Rattle.dataset.specs.Header as spec;
-ghost use Rattle.dataset.specs.Header.{faultAt, elementCase, itemCase, outside, badLength, tooDeep, undefinedBy, definedBy, valueBy, longAt, vrOnAt, ends_at, closedBy, elementAt, itemBy, item_at};
+ghost use Rattle.dataset.specs.Header.{fault_at, element_case, item_case, outside, bad_length, too_deep, undefined_by, defined_by, value_by, long_at, vr_on_at, ends_at, closed_by, element_at, item_by, item_at};
 
 use crate::vr::Form;
 use crate::{bytes, tags, vr};
@@ -60,14 +60,14 @@ const UNDEFINED: usize = 0xFFFFFFFF;
 
 // The fault of a refused header. Every fault of the reading but 1 is made here.
 pub fn fault(number: u8, position: usize) -> Answer
-    ensures { result ≡ faultAt number position }
+    ensures { result ≡ fault_at number position }
 {
     Answer::refused(number, position)
 }
 
 // The refusal of the header at `at`, in an element's place.
 fn refused_element(at: usize, number: u8) -> ElementHeader
-    ensures { elementCase result ≡ spec.ElementHeader.refused number at }
+    ensures { element_case result ≡ spec.ElementHeader.refused number at }
 {
     ElementHeader::Refused {
         number,
@@ -77,7 +77,7 @@ fn refused_element(at: usize, number: u8) -> ElementHeader
 
 // The refusal of the header at `at`, in the place of an item or a fragment.
 fn refused_item(at: usize, number: u8) -> ItemHeader
-    ensures { itemCase result ≡ spec.ItemHeader.refused number at }
+    ensures { item_case result ≡ spec.ItemHeader.refused number at }
 {
     ItemHeader::Refused {
         number,
@@ -87,7 +87,7 @@ fn refused_item(at: usize, number: u8) -> ItemHeader
 
 // A value, or a sequence of defined length.
 fn defined_by(tag: u32, vr: u16, start: usize, end: usize) -> ElementHeader
-    ensures { elementCase result ≡ definedBy tag vr start end }
+    ensures { element_case result ≡ defined_by tag vr start end }
 {
     if vr == vr::SQ {
         return ElementHeader::Sequence {
@@ -107,7 +107,7 @@ fn defined_by(tag: u32, vr: u16, start: usize, end: usize) -> ElementHeader
 
 // A sequence of undefined length, or fragments.
 fn undefined_by(tag: u32, vr: u16, stop: usize, start: usize) -> ElementHeader
-    ensures { elementCase result ≡ undefinedBy tag vr stop start }
+    ensures { element_case result ≡ undefined_by tag vr stop start }
 {
     if vr == vr::SQ {
         return ElementHeader::Sequence {
@@ -122,7 +122,7 @@ fn undefined_by(tag: u32, vr: u16, stop: usize, start: usize) -> ElementHeader
 
 // Whether the length is odd, or undefined on a VR other than SQ and OB.
 fn bad_length(vr: u16, len: usize) -> bool
-    ensures { result ≡ badLength vr len }
+    ensures { result ≡ bad_length vr len }
 {
     if len == UNDEFINED {
         return !((vr == vr::SQ) | (vr == vr::OB));
@@ -132,7 +132,7 @@ fn bad_length(vr: u16, len: usize) -> bool
 
 // Whether it is a sequence with no level left.
 fn too_deep(vr: u16, left: u32) -> bool
-    ensures { result ≡ tooDeep vr left }
+    ensures { result ≡ too_deep vr left }
 {
     (vr == vr::SQ) & (left == 0)
 }
@@ -148,7 +148,7 @@ fn value_by(
     len: usize,
 ) -> ElementHeader
     requires { start ≤ stop }
-    ensures { elementCase result ≡ valueBy tag vr left stop at start len }
+    ensures { element_case result ≡ value_by tag vr left stop at start len }
 {
     if bad_length(vr, len) {
         return refused_element(at, 7);
@@ -182,7 +182,7 @@ fn ends_at(delimited: bool, stop: usize, at: usize) -> bool
 // Whether the delimiter stands at `at`, with length 0, in an extent that it closes.
 fn closed_by(d: &[u8], delimiter: u32, delimited: bool, at: usize) -> bool
     requires { at + 8 ≤ length d.now }
-    ensures { result ≡ closedBy d.now delimiter delimited at }
+    ensures { result ≡ closed_by d.now delimiter delimited at }
 {
     if !delimited {
         return false;
@@ -193,7 +193,7 @@ fn closed_by(d: &[u8], delimiter: u32, delimited: bool, at: usize) -> bool
 // The checks at an element of the long form, from its second test of the bytes left on.
 fn long_form(d: &[u8], tag: u32, vr: u16, left: u32, stop: usize, at: usize) -> ElementHeader
     requires { (at ≤ stop) × (stop ≤ length d.now) }
-    ensures { elementCase result ≡ longAt d.now tag vr left stop at }
+    ensures { element_case result ≡ long_at d.now tag vr left stop at }
 {
     if stop - at < 12 {
         return refused_element(at, 2);
@@ -208,7 +208,7 @@ fn long_form(d: &[u8], tag: u32, vr: u16, left: u32, stop: usize, at: usize) -> 
 // The checks at an element from its VR on.
 fn vr_on(d: &[u8], tag: u32, left: u32, stop: usize, at: usize) -> ElementHeader
     requires { (at + 8 ≤ stop) × (stop ≤ length d.now) }
-    ensures { elementCase result ≡ vrOnAt d.now tag left stop at }
+    ensures { element_case result ≡ vr_on_at d.now tag left stop at }
 {
     let vr = bytes::vr_at(d, at);
     match vr::form_of(vr) {
@@ -232,7 +232,7 @@ pub fn header(
     at: usize,
     least: u64,
 ) -> ElementHeader
-    ensures { elementCase result ≡ elementAt d.now delimited left stop at least }
+    ensures { element_case result ≡ element_at d.now delimited left stop at least }
 {
     if is_outside(d, stop, at) {
         return refused_element(at, 2);
@@ -259,7 +259,7 @@ pub fn header(
 // The item or fragment at `at`, by its length.
 fn item_by(in_sequence: bool, stop: usize, at: usize, start: usize, len: usize) -> ItemHeader
     requires { start ≤ stop }
-    ensures { itemCase result ≡ itemBy in_sequence stop at start len }
+    ensures { item_case result ≡ item_by in_sequence stop at start len }
 {
     if len == UNDEFINED {
         if in_sequence {
@@ -293,7 +293,7 @@ pub fn item_header(
     stop: usize,
     at: usize,
 ) -> ItemHeader
-    ensures { itemCase result ≡ item_at d.now in_sequence delimited stop at }
+    ensures { item_case result ≡ item_at d.now in_sequence delimited stop at }
 {
     if is_outside(d, stop, at) {
         return refused_item(at, 2);

@@ -1,7 +1,7 @@
 // The lookup of a tag at the top level of a data set.
 ghost use Rattle.std.specs.Prelude.{◌≡◌, ◌≤◌, eqb};
 ghost use Rattle.dataset.specs.Lookup.{absent, present, found, Lookup};
-ghost use Rattle.dataset.specs.Inner.Outcomes.{orNext};
+ghost use Rattle.dataset.specs.Inner.Outcomes.{or_next};
 
 use crate::reading;
 use crate::reading::OneOutcome;
@@ -45,7 +45,7 @@ fn present_at(start: usize, end: usize) -> Found
 // What is found after one element more, of the tag `here`, whose value lies from start to end.
 fn or_next(before: Found, wanted: u32, here: u32, start: usize, end: usize) -> Found
     requires { start ≤ end }
-    ensures { result ≡ orNext before (eqb here wanted) (present start end) }
+    ensures { result ≡ or_next before (eqb here wanted) (present start end) }
 {
     if before.present {
         return before;

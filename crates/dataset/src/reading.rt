@@ -1,9 +1,9 @@
 // The reading of a data set: the first fault from the left, or none. Each header is read once and each offset is passed once,
 // so that the cost is linear in the bytes: a reader goes on from where the reader below it stopped.
 ghost use Rattle.std.specs.Prelude.{◌≡◌, ◌<◌, ◌≤◌, length};
-ghost use Rattle.dataset.specs.Reading.{explicit, elementsAt, itemsAt, fragmentsAt, one_at, handedOn, oneCase, answer_of, sizeAnswer, dataSet};
+ghost use Rattle.dataset.specs.Reading.{explicit, elements_at, items_at, fragments_at, one_at, handed_on, one_case, answer_of, size_answer, data_set};
 ghost use Rattle.dataset.specs.Reading as spec;
-ghost use Rattle.dataset.specs.Inner.Outcomes.{outcomeOf, PastDelimiter, holdingOf};
+ghost use Rattle.dataset.specs.Inner.Outcomes.{outcome_of, PastDelimiter, holding_of};
 
 use crate::header::{ElementHeader, ItemHeader};
 use crate::{header, vr};
@@ -55,7 +55,7 @@ pub enum OneOutcome {
 // Reads the fragments from `from` on, to their delimiter.
 fn read_fragments(d: &[u8], left: u32, stop: usize, from: usize) -> Outcome
     requires { (from ≤ stop) × (stop ≤ length d.now) }
-    ensures { result ≡ outcomeOf (fragmentsAt explicit d.now left stop from) }
+    ensures { result ≡ outcome_of (fragments_at explicit d.now left stop from) }
 {
     let mut at = from;
     loop {
@@ -76,7 +76,7 @@ fn read_fragments(d: &[u8], left: u32, stop: usize, from: usize) -> Outcome
 // An element that holds items or fragments, by what their reader answers: its value ends before a closing delimiter of 8 bytes.
 fn holding(tag: u32, vr: u16, start: usize, delimited: bool, inside: Outcome) -> OneOutcome
     requires { PastDelimiter inside }
-    ensures { result ≡ holdingOf tag vr start delimited inside }
+    ensures { result ≡ holding_of tag vr start delimited inside }
 {
     match inside {
         Outcome::Refused(fault) => OneOutcome::Refused(fault),
@@ -112,7 +112,7 @@ pub fn read_one(
     at: usize,
     least: u64,
 ) -> OneOutcome
-    ensures { oneCase result ≡ handedOn (one_at explicit d.now delimited left stop at least) }
+    ensures { one_case result ≡ handed_on (one_at explicit d.now delimited left stop at least) }
 {
     match header::header(d, delimited, left, stop, at, least) {
         ElementHeader::Refused { number, position } => OneOutcome::Refused(header::fault(
@@ -151,7 +151,7 @@ pub fn read_one(
 #[cycle(read_elements_read_items_read_one)]
 fn read_elements(d: &[u8], delimited: bool, left: u32, stop: usize, from: usize) -> Outcome
     requires { (from ≤ stop) × (stop ≤ length d.now) }
-    ensures { result ≡ outcomeOf (elementsAt explicit d.now delimited left stop from 0) }
+    ensures { result ≡ outcome_of (elements_at explicit d.now delimited left stop from 0) }
 {
     let mut at = from;
     let mut least: u64 = 0;
@@ -177,7 +177,7 @@ fn read_elements(d: &[u8], delimited: bool, left: u32, stop: usize, from: usize)
 #[cycle(read_elements_read_items_read_one)]
 fn read_items(d: &[u8], delimited: bool, left: u32, stop: usize, from: usize) -> Outcome
     requires { (0 < left) × (from ≤ stop) × (stop ≤ length d.now) }
-    ensures { result ≡ outcomeOf (itemsAt explicit d.now delimited left stop from) }
+    ensures { result ≡ outcome_of (items_at explicit d.now delimited left stop from) }
 {
     let mut at = from;
     loop {
@@ -202,7 +202,7 @@ fn read_items(d: &[u8], delimited: bool, left: u32, stop: usize, from: usize) ->
 
 // 1: whether a data set is larger than it may be.
 pub fn size_answer(d: &[u8]) -> Answer
-    ensures { result ≡ sizeAnswer d.now }
+    ensures { result ≡ size_answer d.now }
 {
     if SIZE_LIMIT < d.len() {
         return Answer::refused(1, 0);
@@ -212,7 +212,7 @@ pub fn size_answer(d: &[u8]) -> Answer
 
 // Reads a data set: its first fault from the left, or number 0.
 pub fn read(d: &[u8]) -> Answer
-    ensures { result ≡ answer_of (dataSet d.now) }
+    ensures { result ≡ answer_of (data_set d.now) }
 {
     let size = size_answer(d);
     if size.number != 0 {

@@ -1,8 +1,8 @@
 // What stands under two tags of a data set.
 ghost use Rattle.std.specs.Prelude.{◌≡◌};
-ghost use Rattle.dataset.specs.Extent.{elementsIn};
+ghost use Rattle.dataset.specs.Extent.{elements_in};
 ghost use Rattle.dataset.specs.Place.{Lies, SoughtIn};
-ghost use Rattle.dataset.specs.Inner.Place.{isThere, placeBy, orHere};
+ghost use Rattle.dataset.specs.Inner.Place.{is_there, place_by, or_here};
 
 use crate::extent::Extent;
 use crate::reading::OneOutcome;
@@ -33,7 +33,7 @@ pub enum Sought {
 }
 
 fn is_there(p: Place) -> bool
-    ensures { result ≡ isThere p }
+    ensures { result ≡ is_there p }
 {
     match p {
         Place::Absent => false,
@@ -50,7 +50,7 @@ fn is_there(p: Place) -> bool
 // An element of a data set in x, by what its reader hands on: where its value ends, and where what follows it starts, differ by the
 // delimiter that closes it.
 fn place_by(x: Extent, vr: u16, start: usize, end: usize, next: usize) -> Place
-    ensures { result ≡ placeBy x vr start end next }
+    ensures { result ≡ place_by x vr start end next }
 {
     if vr != vr::SQ {
         if end != next {
@@ -78,7 +78,7 @@ fn place_by(x: Extent, vr: u16, start: usize, end: usize, next: usize) -> Place
 
 // What stands under a tag after one element more, of the tag `here`: the first of the tag counts.
 fn or_here(before: Place, tag: u32, here: u32, p: Place) -> Place
-    ensures { result ≡ orHere before tag here p }
+    ensures { result ≡ or_here before tag here p }
 {
     if here != tag {
         return before;
@@ -92,7 +92,7 @@ fn or_here(before: Place, tag: u32, here: u32, p: Place) -> Place
 // What stands under two tags in a data set that lies in x, in one walk over it.
 fn seek_in(d: &[u8], x: Extent, first: u32, second: u32) -> Sought
     requires { Lies d.now x }
-    ensures { SoughtIn d.now first second (elementsIn d.now x) result }
+    ensures { SoughtIn d.now first second (elements_in d.now x) result }
 {
     let mut at = x.from;
     let mut least: u64 = 0;
@@ -125,7 +125,7 @@ fn seek_in(d: &[u8], x: Extent, first: u32, second: u32) -> Sought
 
 // What stands under two tags in the data set in x. A stop past the data, or a start past stop, is 2.
 pub fn seek(d: &[u8], x: Extent, first: u32, second: u32) -> Sought
-    ensures { SoughtIn d.now first second (elementsIn d.now x) result }
+    ensures { SoughtIn d.now first second (elements_in d.now x) result }
 {
     let outside = extent::outside_answer(d, x);
     if outside.number != 0 {

@@ -1,10 +1,10 @@
 -- The theorems that specs/Theorems states.
 -- Assumes nothing.
 use Rattle.digest.specs.Theorems.{Theorems}
-use Rattle.digest.proofs.laws.sha256.Constants.{constants-rule, start-words-rule}
-use Rattle.digest.proofs.laws.padding.Padded.{fewest-zeros}
-use Rattle.digest.proofs.laws.running.Feeding.{two-feedings, digest-so-far}
-use Rattle.digest.proofs.laws.running.CallsInTurn.{calls, calls-from}
+use Rattle.digest.proofs.Laws.Sha256.Constants.{constants-rule, start-words-rule}
+use Rattle.digest.proofs.Laws.Padding.Padded.{fewest-zeros}
+use Rattle.digest.proofs.Laws.Running.Feeding.{two-feedings, digest-so-far}
+use Rattle.digest.proofs.Laws.Running.CallsInTurn.{calls, calls-from}
 
 pub theorems : Theorems
 theorems =

@@ -18,10 +18,10 @@ undivided zero n = true
 undivided (suc d) n = (nat_lt (suc d) 2 || not (n % suc d == 0)) && undivided d n
 
 -- n is a prime number
-abbrev pub isPrime : ℕ → Bool
-isPrime n = nat_le 2 n && undivided (n - 1) n
+abbrev pub is_prime : ℕ → Bool
+is_prime n = nat_le 2 n && undivided (n - 1) n
 
 -- the primes below n, ascending
-unfoldable pub primesBelow : ℕ → List ℕ
-primesBelow zero = []
-primesBelow (suc n) = primesBelow n ++ (if isPrime n then n ∷ [] else [])
+unfoldable pub primes_below : ℕ → List ℕ
+primes_below zero = []
+primes_below (suc n) = primes_below n ++ (if is_prime n then n ∷ [] else [])

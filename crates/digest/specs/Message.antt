@@ -25,8 +25,8 @@ chain block zero h m = h
 chain block (suc n) h m = block (chain block n h m) (block_of m n)
 
 -- from the words h, the words after all whole blocks of m
-unfoldable pub afterBlocks : (block : List ℕ → List ℕ → List ℕ) → List ℕ → List ℕ → List ℕ
-afterBlocks block h m = chain block (length m / 64) h m
+unfoldable pub after_blocks : (block : List ℕ → List ℕ → List ℕ) → List ℕ → List ℕ → List ℕ
+after_blocks block h m = chain block (length m / 64) h m
 
 -- the bytes of m past its whole blocks
 unfoldable pub rest : List ℕ → List ℕ
@@ -34,8 +34,8 @@ rest m = drop (64 * (length m / 64)) m
 
 -- 6.2.2, last paragraph: the digest of a message of bytes is the words after its last block, in a row. FIPS 180-4 defines it for messages
 -- below 2 ^ 64 bits; no call gives it for longer ones (`hashing`). The padded message fills whole blocks (the theorem FewestZeros).
-unfoldable pub digestOf : Algorithm → List ℕ → List ℕ
-digestOf a m = word_bytes a.order a.size (afterBlocks a.block a.start (m ++ padding a.order (length m)))
+unfoldable pub digest_of : Algorithm → List ℕ → List ℕ
+digest_of a m = word_bytes a.order a.size (after_blocks a.block a.start (m ++ padding a.order (length m)))
 
 -- 25: "its total is past 2^61 - 1 bytes" (RULES, 9.3)
 abbrev pub limit : ℕ
@@ -44,5 +44,5 @@ limit = 2 ^ 61 - 1
 -- the digest of a whole message, or 25 where it is longer than the limit (docs/DECISIONS.md, D5). The answer's length is 0 (A3).
 unfoldable pub hashing : Algorithm → List ℕ → Hashed
 hashing a m =
-    if nat_le (length m) limit then record { answer = accepted 0; digest = digestOf a m } else
+    if nat_le (length m) limit then record { answer = accepted 0; digest = digest_of a m } else
     record { answer = refused 25 0; digest = replicate a.size 0 }

@@ -5,48 +5,48 @@
 -- Assumes nothing.
 use Rattle.std.specs.Prelude.{ℕ, ◌+◌, ◌-◌, ◌%◌, Bool, ◌&&◌, List, [], ◌++◌, length, take, drop, replicate, ◌==◌, nat_le}
 use Rattle.slices.specs.If.{if◌then◌else◌}
-use Rattle.slices.specs.Lists.{allAre}
+use Rattle.slices.specs.Lists.{all_are}
 use Rattle.answer.specs.Answer.{accepted, refused}
 use Rattle.digest.specs.Padding.{word_bytes, padding}
-use Rattle.digest.specs.Message.{Algorithm, afterBlocks, rest, limit}
+use Rattle.digest.specs.Message.{Algorithm, after_blocks, rest, limit}
 use Rattle.digest.specs.declared.running.Running.{Running}
 use Rattle.digest.specs.declared.running.Fed.{Fed}
 use Rattle.digest.specs.declared.running.Finished.{Finished}
 
 -- the bytes that wait for the rest of their block
-abbrev pub waitingBytes : Running → List ℕ
-waitingBytes s = take s.count s.waiting
+abbrev pub waiting_bytes : Running → List ℕ
+waiting_bytes s = take s.count s.waiting
 
 -- 10.3: "It is possible when the count of waiting bytes is what the total leaves modulo 64, and the rest of the room for them is zero."
 unfoldable pub possible : Running → Bool
-possible s = s.count == s.total % 64 && allAre 0 (drop s.count s.waiting)
+possible s = s.count == s.total % 64 && all_are 0 (drop s.count s.waiting)
 
 -- neither condition of 25 holds: it is possible, and its total is within the limit after n bytes more
 unfoldable pub accepts : Running → ℕ → Bool
 accepts s n = possible s && nat_le (s.total + n) limit
 
 -- waiting bytes in their array of 64, whose room past them is zero
-abbrev pub zeroFilled : List ℕ → List ℕ
-zeroFilled w = w ++ replicate (64 - length w) 0
+abbrev pub zero_filled : List ℕ → List ℕ
+zero_filled w = w ++ replicate (64 - length w) 0
 
 -- the running digest of no bytes
 unfoldable pub start : Algorithm → Running
-start a = record { words = a.start; waiting = zeroFilled []; count = 0; total = 0 }
+start a = record { words = a.start; waiting = zero_filled []; count = 0; total = 0 }
 
 -- the running digest after the bytes m: the waiting bytes and m are taken in whole blocks, and the rest waits
 unfoldable pub fed : Algorithm → Running → List ℕ → Running
 fed a s m =
-    let bytes = waitingBytes s ++ m in
+    let bytes = waiting_bytes s ++ m in
     record {
-      words = afterBlocks a.block s.words bytes;
-      waiting = zeroFilled (rest bytes);
+      words = after_blocks a.block s.words bytes;
+      waiting = zero_filled (rest bytes);
       count = length (rest bytes);
       total = s.total + length m;
     }
 
 -- the digest of all bytes so far: the waiting bytes and the padding of the total are taken in whole blocks
 unfoldable pub finished : Algorithm → Running → List ℕ
-finished a s = word_bytes a.order a.size (afterBlocks a.block s.words (waitingBytes s ++ padding a.order s.total))
+finished a s = word_bytes a.order a.size (after_blocks a.block s.words (waiting_bytes s ++ padding a.order s.total))
 
 -- 10.4: "from a running digest it makes the next and returns it. Refused, it returns the old one unchanged." The answer's length is 0
 -- (docs/DECISIONS.md, A3).

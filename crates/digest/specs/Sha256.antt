@@ -4,8 +4,8 @@
 -- Assumes nothing.
 use Rattle.std.specs.Prelude.{ℕ, zero, suc, ◌+◌, ◌-◌, ◌*◌, ◌%◌, ◌^◌, List, [], ◌∷◌, ◌++◌, length}
 use Rattle.slices.specs.Lists.{at, tabulate}
-use Rattle.digest.specs.Words.{ch, maj, bigSigma0, bigSigma1, smallSigma0, smallSigma1}
-use Rattle.digest.specs.Padding.{bigEndian}
+use Rattle.digest.specs.Words.{ch, maj, big_sigma0, big_sigma1, small_sigma0, small_sigma1}
+use Rattle.digest.specs.Padding.{big_endian}
 use Rattle.digest.specs.Message.{Algorithm}
 use Rattle.digest.specs.declared.sha256.Working.{Working}
 
@@ -22,8 +22,8 @@ constants =
     0x748f82ee ∷ 0x78a5636f ∷ 0x84c87814 ∷ 0x8cc70208 ∷ 0x90befffa ∷ 0xa4506ceb ∷ 0xbef9a3f7 ∷ 0xc67178f2 ∷ []
 
 -- 5.3.3: the initial hash value, eight words (their rule: specs/Constants)
-unfoldable pub startWords : List ℕ
-startWords =
+unfoldable pub start_words : List ℕ
+start_words =
     0x6a09e667 ∷ 0xbb67ae85 ∷ 0x3c6ef372 ∷ 0xa54ff53a ∷ 0x510e527f ∷ 0x9b05688c ∷ 0x1f83d9ab ∷ 0x5be0cd19 ∷ []
 
 -- 3.1 and 5.2.1: word i of a block, its first byte the highest
@@ -31,13 +31,13 @@ unfoldable pub word_of : List ℕ → ℕ → ℕ
 word_of block i = at block (4 * i) * 2 ^ 24 + at block (4 * i + 1) * 2 ^ 16 + at block (4 * i + 2) * 2 ^ 8 + at block (4 * i + 3)
 
 -- 6.2.2, step 1: word t of the message schedule, 16 ≤ t, from the words before it
-unfoldable pub nextWord : List ℕ → ℕ → ℕ
-nextWord w t = (smallSigma1 (at w (t - 2)) + at w (t - 7) + smallSigma0 (at w (t - 15)) + at w (t - 16)) % 2 ^ 32
+unfoldable pub next_word : List ℕ → ℕ → ℕ
+next_word w t = (small_sigma1 (at w (t - 2)) + at w (t - 7) + small_sigma0 (at w (t - 15)) + at w (t - 16)) % 2 ^ 32
 
 -- the words w and n more of the schedule
 unfoldable pub extended : ℕ → List ℕ → List ℕ
 extended zero w = w
-extended (suc n) w = let v = extended n w in v ++ (nextWord v (length v) ∷ [])
+extended (suc n) w = let v = extended n w in v ++ (next_word v (length v) ∷ [])
 
 -- 6.2.2, step 1: the message schedule, the sixteen words of the block and 48 more
 unfoldable pub schedule : List ℕ → List ℕ
@@ -50,8 +50,8 @@ initialized h = record { a = at h 0; b = at h 1; c = at h 2; d = at h 3; e = at 
 -- 6.2.2, step 3: one round, with its constant k and its word w
 unfoldable pub round : (k w : ℕ) → Working → Working
 round k w v =
-    let t₁ = (v.h + bigSigma1 v.e + ch v.e v.f v.g + k + w) % 2 ^ 32 in
-    let t₂ = (bigSigma0 v.a + maj v.a v.b v.c) % 2 ^ 32 in
+    let t₁ = (v.h + big_sigma1 v.e + ch v.e v.f v.g + k + w) % 2 ^ 32 in
+    let t₂ = (big_sigma0 v.a + maj v.a v.b v.c) % 2 ^ 32 in
     record { a = (t₁ + t₂) % 2 ^ 32; b = v.a; c = v.b; d = v.c; e = (v.d + t₁) % 2 ^ 32; f = v.e; g = v.f; h = v.g }
 
 -- 6.2.2, step 3: the rounds 0 to n - 1
@@ -71,4 +71,4 @@ compressed h block = added (rounds 64 (schedule block) (initialized h)) h
 
 -- 6.2: SHA-256
 abbrev pub sha256 : Algorithm
-sha256 = record { start = startWords; block = compressed; order = bigEndian; size = 32 }
+sha256 = record { start = start_words; block = compressed; order = big_endian; size = 32 }

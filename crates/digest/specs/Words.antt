@@ -27,17 +27,17 @@ abbrev pub maj : ℕ → ℕ → ℕ → ℕ
 maj x y z = bit_xor (bit_xor (bit_and x y) (bit_and x z)) (bit_and y z)
 
 -- 4.1.2, (4.4): Σ0
-unfoldable pub bigSigma0 : ℕ → ℕ
-bigSigma0 x = bit_xor (bit_xor (rotr 2 x) (rotr 13 x)) (rotr 22 x)
+unfoldable pub big_sigma0 : ℕ → ℕ
+big_sigma0 x = bit_xor (bit_xor (rotr 2 x) (rotr 13 x)) (rotr 22 x)
 
 -- 4.1.2, (4.5): Σ1
-unfoldable pub bigSigma1 : ℕ → ℕ
-bigSigma1 x = bit_xor (bit_xor (rotr 6 x) (rotr 11 x)) (rotr 25 x)
+unfoldable pub big_sigma1 : ℕ → ℕ
+big_sigma1 x = bit_xor (bit_xor (rotr 6 x) (rotr 11 x)) (rotr 25 x)
 
 -- 4.1.2, (4.6): σ0
-unfoldable pub smallSigma0 : ℕ → ℕ
-smallSigma0 x = bit_xor (bit_xor (rotr 7 x) (rotr 18 x)) (shr 3 x)
+unfoldable pub small_sigma0 : ℕ → ℕ
+small_sigma0 x = bit_xor (bit_xor (rotr 7 x) (rotr 18 x)) (shr 3 x)
 
 -- 4.1.2, (4.7): σ1
-unfoldable pub smallSigma1 : ℕ → ℕ
-smallSigma1 x = bit_xor (bit_xor (rotr 17 x) (rotr 19 x)) (shr 10 x)
+unfoldable pub small_sigma1 : ℕ → ℕ
+small_sigma1 x = bit_xor (bit_xor (rotr 17 x) (rotr 19 x)) (shr 10 x)

@@ -19,7 +19,7 @@ pub(crate) fn word(a: u8, b: u8, c: u8, d: u8) -> u32
 }
 
 pub(crate) fn number_bytes(n: u64) -> [u8; 8]
-    ensures { result ≡ Spec.bytes_of Spec.bigEndian 8 n }
+    ensures { result ≡ Spec.bytes_of Spec.big_endian 8 n }
 {
     [
         ((n >> 56) % 256) as u8,
@@ -35,14 +35,14 @@ pub(crate) fn number_bytes(n: u64) -> [u8; 8]
 
 fn word_byte(word: u32, i: usize) -> u8
     requires { i < 4 }
-    ensures { result ≡ Spec.byte_of Spec.bigEndian 4 word i }
+    ensures { result ≡ Spec.byte_of Spec.big_endian 4 word i }
 {
     let shift = 8 * (3 - i);
     ((word >> shift) % 256) as u8
 }
 
 pub(crate) fn word_bytes(words: [u32; 8]) -> [u8; 32]
-    ensures { result ≡ Spec.word_bytes Spec.bigEndian 32 words }
+    ensures { result ≡ Spec.word_bytes Spec.big_endian 32 words }
 {
     let mut bytes = [0u8; 32];
     let mut i: usize = 0;

@@ -1,7 +1,7 @@
 // The running digest, fed in parts and finished at any time.
 ghost use Rattle.std.specs.Prelude.{◌≡◌, ◌+◌, ◌≤◌, length, drop};
 ghost use Rattle.std.proofs.Math.Seq.{paste};
-ghost use Rattle.slices.specs.Lists.{allAre};
+ghost use Rattle.slices.specs.Lists.{all_are};
 ghost use Rattle.digest.specs.Message.{rest};
 ghost use Rattle.digest.specs.Sha256 as Sha256;
 ghost use Rattle.digest.specs.Running as Spec;
@@ -40,7 +40,7 @@ pub struct Finished {
 // Whether every byte from an index on is 0.
 fn zero_from(bytes: [u8; 64], from: usize) -> bool
     requires { from ≤ 64 }
-    ensures { result ≡ allAre 0 (drop from bytes) }
+    ensures { result ≡ all_are 0 (drop from bytes) }
 {
     slices::all_are(&bytes[from..], 0)
 }
@@ -57,7 +57,7 @@ fn filled(waiting: [u8; 64], count: usize, bytes: &[u8]) -> [u8; 64]
 
 // The bytes past the whole blocks, as they wait.
 fn rest_waiting(bytes: &[u8]) -> [u8; 64]
-    ensures { result ≡ Spec.zeroFilled (rest bytes.now) }
+    ensures { result ≡ Spec.zero_filled (rest bytes.now) }
 {
     let from = bytes.len() - bytes.len() % 64;
     filled([0u8; 64], 0, &bytes[from..])

@@ -1,7 +1,7 @@
 // What SHA-256 makes of the blocks of a message: FIPS 180-4, 6.2.2.
 ghost use Rattle.std.specs.Prelude.{◌≡◌, ◌<◌, ◌≤◌, length, take};
 ghost use Rattle.slices.specs.Lists.{tabulate};
-ghost use Rattle.digest.specs.Message.{afterBlocks};
+ghost use Rattle.digest.specs.Message.{after_blocks};
 ghost use Rattle.digest.specs.Sha256 as Spec;
 
 use crate::{bytes, words};
@@ -61,7 +61,7 @@ fn loaded(block: &[u8]) -> [u32; 64]
 // Word t of the message schedule, from the words before it.
 fn next_word(w: &[u32; 64], t: usize) -> u32
     requires { (16 ≤ t) × (t < 64) }
-    ensures { result ≡ Spec.nextWord w.now t }
+    ensures { result ≡ Spec.next_word w.now t }
 {
     let s1 = words::small_sigma1(w[t - 2]);
     let s0 = words::small_sigma0(w[t - 15]);
@@ -174,7 +174,7 @@ fn compressed(h: [u32; 8], k: &[u32; 64], block: &[u8]) -> [u32; 8]
 
 // The hash value after all whole blocks. The table of constants is lent once for all of them: `&K` copies it.
 pub(crate) fn after_blocks(start: [u32; 8], bytes: &[u8]) -> [u32; 8]
-    ensures { result ≡ afterBlocks Spec.compressed start bytes.now }
+    ensures { result ≡ after_blocks Spec.compressed start bytes.now }
 {
     let k = &K;
     let mut h = start;

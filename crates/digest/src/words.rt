@@ -23,25 +23,25 @@ pub(crate) fn maj(x: u32, y: u32, z: u32) -> u32
 }
 
 pub(crate) fn big_sigma0(x: u32) -> u32
-    ensures { result ≡ Spec.bigSigma0 x }
+    ensures { result ≡ Spec.big_sigma0 x }
 {
     rotr(x, 2) ^ rotr(x, 13) ^ rotr(x, 22)
 }
 
 pub(crate) fn big_sigma1(x: u32) -> u32
-    ensures { result ≡ Spec.bigSigma1 x }
+    ensures { result ≡ Spec.big_sigma1 x }
 {
     rotr(x, 6) ^ rotr(x, 11) ^ rotr(x, 25)
 }
 
 pub(crate) fn small_sigma0(x: u32) -> u32
-    ensures { result ≡ Spec.smallSigma0 x }
+    ensures { result ≡ Spec.small_sigma0 x }
 {
     rotr(x, 7) ^ rotr(x, 18) ^ (x >> 3)
 }
 
 pub(crate) fn small_sigma1(x: u32) -> u32
-    ensures { result ≡ Spec.smallSigma1 x }
+    ensures { result ≡ Spec.small_sigma1 x }
 {
     rotr(x, 17) ^ rotr(x, 19) ^ (x >> 10)
 }

@@ -1,1 +1,1 @@
-mod laws
+mod Laws

@@ -4,15 +4,15 @@ use mathlib.Core.Path.{◌≡◌, refl, sym, ap, ◌∙◌}
 use mathlib.Core.List.{List}
 use lib.ListN.{length, get_or}
 use Rattle.mac.specs.Result.{Result, Streamed}
-use Rattle.mac_theorems.specs.Calls.{EitherCall, setOf, roomOf, result_of}
+use Rattle.mac_theorems.specs.Calls.{EitherCall, set_of, room_of, result_of}
 use Rattle.mac_theorems.specs.Demand3.{written}
 use Rattle.mac_theorems.proofs.Demand3.{demand-3}
 use Rattle.mac_theorems.proofs.Theorems as calls
-use Rattle.eddyplume.specs.Boundary.{answerWords, whichOf, StreamedTo, CheckedTo}
-use Rattle.eddyplume.specs.Theorems.{RunInC, LeavesRuns, number_in, writtenIn, FirstHalfInC, SecondHalfInC, AcceptedHasContentInC, MeasuresInC, Theorems}
+use Rattle.eddyplume.specs.Boundary.{answer_words, which_of, StreamedTo, CheckedTo}
+use Rattle.eddyplume.specs.Theorems.{RunInC, LeavesRuns, number_in, written_in, FirstHalfInC, SecondHalfInC, AcceptedHasContentInC, MeasuresInC, Theorems}
 
 -- ---- what the functions leave is a run
-checked-run : (c : EitherCall) (work after answer verdict : List ℕ) → roomOf c ≡ length work → CheckedTo (result_of c) (setOf c) work after answer verdict
+checked-run : (c : EitherCall) (work after answer verdict : List ℕ) → room_of c ≡ length work → CheckedTo (result_of c) (set_of c) work after answer verdict
     → RunInC c work after answer (get_or verdict 0 0)
 checked-run c work after answer verdict room u = record {
   given = (result_of c).answer;
@@ -33,7 +33,7 @@ leaves-runs = record {
   list-check = λ list set expected work after answer verdict. checked-run _ work after answer verdict refl;
   signature-stream = λ uid numbered number set out after answer u. record {
     given = _;
-    run = demand-3.promised.signature-stream uid (whichOf numbered number) set out after _ (streamed _ set out after answer u);
+    run = demand-3.promised.signature-stream uid (which_of numbered number) set out after _ (streamed _ set out after answer u);
     words = u.answers;
   };
   signature-check = λ uid numbered number set expected work after answer verdict. checked-run _ work after answer verdict refl;
@@ -43,9 +43,9 @@ leaves-runs = record {
 measures : MeasuresInC
 measures = record {
   of-list = λ list set out after answer measured h u m.
-      u.answers ∙ ap answerWords ((calls.theorems).measures-as-stream.of-list list set out (rw (ap (λ (w : List ℕ). get_or w 2 0) m) at h)) ∙ sym m;
+      u.answers ∙ ap answer_words ((calls.theorems).measures-as-stream.of-list list set out (rw (ap (λ (w : List ℕ). get_or w 2 0) m) at h)) ∙ sym m;
   of-signature = λ uid numbered number set out after answer measured h u m.
-      u.answers ∙ ap answerWords ((calls.theorems).measures-as-stream.of-signature uid (whichOf numbered number) set out (rw (ap (λ (w : List ℕ). get_or w 2 0) m) at h)) ∙ sym m;
+      u.answers ∙ ap answer_words ((calls.theorems).measures-as-stream.of-signature uid (which_of numbered number) set out (rw (ap (λ (w : List ℕ). get_or w 2 0) m) at h)) ∙ sym m;
 }
 
 -- ---- the words of an answer
@@ -53,24 +53,24 @@ module _ (c : EitherCall) (out after answer : List ℕ) (said : ℕ) (u : RunInC
   number-in : number_in answer ≡ u.given.number
   number-in = ap number_in u.words
 
-  written_in : writtenIn answer after ≡ written u.given after
-  written_in = ap (λ (w : List ℕ). writtenIn w after) u.words
+  written_in_lem : written_in answer after ≡ written u.given after
+  written_in_lem = ap (λ (w : List ℕ). written_in w after) u.words
 
 first-half : FirstHalfInC
 first-half c k out out' after after' answer answer' said said' u u' h h' n =
     let a = demand-3.first-half c k out out' after after' u.given u'.given said said' u.run u'.run
     (sym (number-in _ out after answer said u) ∙ h) (sym (number-in _ out' after' answer' said' u') ∙ h') n in
-    let w = written_in _ out after answer said u in
-    let w' = written_in _ out' after' answer' said' u' in
+    let w = written_in_lem _ out after answer said u in
+    let w' = written_in_lem _ out' after' answer' said' u' in
     (λ q. a.0 (sym w ∙ q ∙ w'), λ q. w ∙ a.1 q ∙ sym w')
 
 second-half : SecondHalfInC
 second-half c s out out' after after' answer answer' said said' u u' g g' same =
     let a = demand-3.second-half c s out out' after after' u.given u'.given said said' u.run u'.run g g' same in
     record {
-      answers = u'.words ∙ ap answerWords a.answers ∙ sym u.words;
+      answers = u'.words ∙ ap answer_words a.answers ∙ sym u.words;
       verdicts = a.verdicts;
-      streams = written_in _ out' after' answer' said' u' ∙ a.streams ∙ sym (written_in _ out after answer said u);
+      streams = written_in_lem _ out' after' answer' said' u' ∙ a.streams ∙ sym (written_in_lem _ out after answer said u);
     }
 
 accepted-has-content : AcceptedHasContentInC

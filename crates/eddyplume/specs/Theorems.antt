@@ -4,31 +4,31 @@
 use Rattle.std.specs.Prelude.{ℕ, ◌≤◌, ◌≡◌, ◌↔◌, Bool, false, List, length, get_or, take}
 use Rattle.answer.specs.declared.Answer.{Answer}
 use Rattle.mac.specs.Result.{neither}
-use Rattle.mac.specs.ListMode.{Call, contentOf}
-use Rattle.mac.specs.ListMode as listMode
-use Rattle.mac.specs.SignatureMode as signatureMode
-use Rattle.mac_theorems.specs.Calls.{EitherCall, inListMode, inSignatureMode, Run}
-use Rattle.mac_theorems.specs.Demand3.{signedInFragments, on, HasSignedContent}
-use Rattle.eddyplume.specs.Boundary.{answerWords, whichOf, ListMeasured, SignatureMeasured, ListStreamed, ListChecked, SignatureStreamed, SignatureChecked}
+use Rattle.mac.specs.ListMode.{Call, content_of}
+use Rattle.mac.specs.ListMode as list_mode
+use Rattle.mac.specs.SignatureMode as signature_mode
+use Rattle.mac_theorems.specs.Calls.{EitherCall, in_list_mode, in_signature_mode, Run}
+use Rattle.mac_theorems.specs.Demand3.{signed_in_fragments, on, HasSignedContent}
+use Rattle.eddyplume.specs.Boundary.{answer_words, which_of, ListMeasured, SignatureMeasured, ListStreamed, ListChecked, SignatureStreamed, SignatureChecked}
 
 -- what a call of C leaves: a run (crates/mac_theorems/specs/Calls), with its answer in three words
 pub record RunInC (c : EitherCall) (out after answer : List ℕ) (said : ℕ) : Type 0 where
   pub given : Answer
   pub run : Run c out given said after
-  pub words : answer ≡ answerWords given
+  pub words : answer ≡ answer_words given
 
 -- what each of the four functions that write a stream leaves is such a run; what a check says is verdict[0]
 pub record LeavesRuns : Type 0 where
   pub list-stream : (list set out after answer : List ℕ) → ListStreamed list set out after answer
-      → RunInC (inListMode (listMode.streamCall list set out)) out after answer neither
+      → RunInC (in_list_mode (list_mode.stream_call list set out)) out after answer neither
   pub list-check : (list set expected work after answer verdict : List ℕ) → ListChecked list set expected work after answer verdict
-      → RunInC (inListMode (listMode.checkCall list set expected work)) work after answer (get_or verdict 0 0)
+      → RunInC (in_list_mode (list_mode.check_call list set expected work)) work after answer (get_or verdict 0 0)
   pub signature-stream : (uid : List ℕ) (numbered : Bool) (number : ℕ) (set out after answer : List ℕ)
       → SignatureStreamed uid numbered number set out after answer
-      → RunInC (inSignatureMode (signatureMode.streamCall uid (whichOf numbered number) set out)) out after answer neither
+      → RunInC (in_signature_mode (signature_mode.stream_call uid (which_of numbered number) set out)) out after answer neither
   pub signature-check : (uid : List ℕ) (numbered : Bool) (number : ℕ) (set expected work after answer verdict : List ℕ)
       → SignatureChecked uid numbered number set expected work after answer verdict
-      → RunInC (inSignatureMode (signatureMode.checkCall uid (whichOf numbered number) set expected work)) work after answer (get_or verdict 0 0)
+      → RunInC (in_signature_mode (signature_mode.check_call uid (which_of numbered number) set expected work)) work after answer (get_or verdict 0 0)
 
 -- ---- demand 3 (1.8), of what the two functions of list mode leave that write a stream
 
@@ -36,34 +36,34 @@ pub record LeavesRuns : Type 0 where
 abbrev pub number_in : (answer : List ℕ) → ℕ
 number_in answer = get_or answer 0 0
 
-abbrev pub writtenIn : (answer after : List ℕ) → List ℕ
-writtenIn answer after = take (get_or answer 2 0) after
+abbrev pub written_in : (answer after : List ℕ) → List ℕ
+written_in answer after = take (get_or answer 2 0) after
 
 abbrev pub FirstHalfInC : Type 0
 FirstHalfInC =
     (c k : Call) (out out' after after' answer answer' : List ℕ) (said said' : ℕ)
-    → RunInC (inListMode c) out after answer said → RunInC (inListMode k) out' after' answer' said'
-    → number_in answer ≡ 0 → number_in answer' ≡ 0 → signedInFragments (contentOf c) ≡ false
-    → (writtenIn answer after ≡ writtenIn answer' after') ↔ (contentOf c ≡ contentOf k)
+    → RunInC (in_list_mode c) out after answer said → RunInC (in_list_mode k) out' after' answer' said'
+    → number_in answer ≡ 0 → number_in answer' ≡ 0 → signed_in_fragments (content_of c) ≡ false
+    → (written_in answer after ≡ written_in answer' after') ↔ (content_of c ≡ content_of k)
 
 -- 7.8: "the two calls have equal answers and, if they are checks, equal verdicts; and their outputs or work buffers start with the same
 -- bytes"
 pub record SameInC (answer answer' : List ℕ) (said said' : ℕ) (after after' : List ℕ) : Type 0 where
   pub answers : answer' ≡ answer
   pub verdicts : said' ≡ said
-  pub streams : writtenIn answer' after' ≡ writtenIn answer after
+  pub streams : written_in answer' after' ≡ written_in answer after
 
 abbrev pub SecondHalfInC : Type 0
 SecondHalfInC =
     (c : Call) (s out out' after after' answer answer' : List ℕ) (said said' : ℕ)
-    → RunInC (inListMode c) out after answer said → RunInC (inListMode (on c s)) out' after' answer' said'
-    → HasSignedContent c → HasSignedContent (on c s) → contentOf (on c s) ≡ contentOf c
+    → RunInC (in_list_mode c) out after answer said → RunInC (in_list_mode (on c s)) out' after' answer' said'
+    → HasSignedContent c → HasSignedContent (on c s) → content_of (on c s) ≡ content_of c
     → SameInC answer answer' said said' after after'
 
 -- the second half speaks of every accepted call
 abbrev pub AcceptedHasContentInC : Type 0
 AcceptedHasContentInC =
-    (c : Call) (out after answer : List ℕ) (said : ℕ) → RunInC (inListMode c) out after answer said → number_in answer ≡ 0 → HasSignedContent c
+    (c : Call) (out after answer : List ℕ) (said : ℕ) → RunInC (in_list_mode c) out after answer said → number_in answer ≡ 0 → HasSignedContent c
 
 -- ---- measuring (7.9): "the answer that the call for the stream has with room enough", which is measured[2]
 pub record MeasuresInC : Type 0 where

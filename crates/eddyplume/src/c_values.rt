@@ -1,7 +1,7 @@
 // The values that C gets: answers, verdicts, yes or no; and the signature that it names.
 ghost use Rattle.std.specs.Prelude.{◌≡◌};
-ghost use Rattle.mac.specs.Result.{verdictCode};
-ghost use Rattle.eddyplume.specs.Boundary.{answerWords, whichOf, flag};
+ghost use Rattle.mac.specs.Result.{verdict_code};
+ghost use Rattle.eddyplume.specs.Boundary.{answer_words, which_of, flag};
 
 use answer::Answer;
 use mac::verdict::Verdict;
@@ -9,14 +9,14 @@ use selection::select::Signature;
 
 // Number, position, length.
 pub(crate) fn answer_words(a: Answer) -> [u64; 3]
-    ensures { result ≡ answerWords a }
+    ensures { result ≡ answer_words a }
 {
     [a.number as u64, a.position as u64, a.length as u64]
 }
 
 // 0 neither, 1 same, 2 differs.
 pub(crate) fn verdict_code(v: Verdict) -> u8
-    ensures { result ≡ verdictCode v }
+    ensures { result ≡ verdict_code v }
 {
     match v {
         Verdict::Neither => 0,
@@ -27,7 +27,7 @@ pub(crate) fn verdict_code(v: Verdict) -> u8
 
 // A signature number, or none.
 pub(crate) fn which_of(numbered: bool, number: u64) -> Signature
-    ensures { result ≡ whichOf numbered number }
+    ensures { result ≡ which_of numbered number }
 {
     if numbered {
         return Signature::Number(number);

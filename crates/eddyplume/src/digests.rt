@@ -3,7 +3,7 @@ ghost use Rattle.std.specs.Prelude.{◌≡◌};
 ghost use Rattle.digest.specs.Message.{hashing};
 ghost use Rattle.digest.specs.Running.{start};
 ghost use Rattle.digest.specs.Sha256.{sha256};
-ghost use Rattle.eddyplume.specs.Boundary.{HashedTo, Holds, DigestFed, DigestFinished, runningOf};
+ghost use Rattle.eddyplume.specs.Boundary.{HashedTo, Holds, DigestFed, DigestFinished, running_of};
 
 use crate::c_values;
 use digest::message;
@@ -11,7 +11,7 @@ use digest::running::Running;
 
 // The running digest that three arrays hold.
 fn running_of(words: [u32; 8], waiting: [u8; 64], counts: [u64; 2]) -> Running
-    ensures { result ≡ runningOf words waiting counts }
+    ensures { result ≡ running_of words waiting counts }
 {
     Running {
         words,

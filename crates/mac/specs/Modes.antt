@@ -6,14 +6,14 @@ use Rattle.std.proofs.Math.Option.{Option, some}
 use Rattle.std.proofs.Math.Option as Opt
 use Rattle.slices.specs.If.{if◌then◌else◌}
 use Rattle.answer.specs.declared.Answer.{Answer}
-use Rattle.answer.specs.Answer.{accepted, refused, ◌orElse◌}
-use Rattle.stream.specs.Walk.{answerFrom16}
+use Rattle.answer.specs.Answer.{accepted, refused, ◌or_else◌}
+use Rattle.stream.specs.Walk.{answer_from16}
 
 -- 9: "in a check only: the expected digest is not 32 bytes long" (9.3); a call for the stream has none
-abbrev pub badDigestLength : Option (List ℕ) → Bool
-badDigestLength Opt.none = false
-badDigestLength (some e) = not (eqb (length e) 32)
+abbrev pub bad_digest_length : Option (List ℕ) → Bool
+bad_digest_length Opt.none = false
+bad_digest_length (some e) = not (eqb (length e) 32)
 
 -- "then 9, 16", alike in both modes (9.4, 9.5): by the stream, the output room and the expected digest
-unfoldable pub answerFrom9 : (stream : List ℕ) (room : ℕ) (expected : Option (List ℕ)) → Answer
-answerFrom9 stream room expected = (if badDigestLength expected then refused 9 0 else accepted 0) or_else answerFrom16 stream room
+unfoldable pub answer_from9 : (stream : List ℕ) (room : ℕ) (expected : Option (List ℕ)) → Answer
+answer_from9 stream room expected = (if bad_digest_length expected then refused 9 0 else accepted 0) or_else answer_from16 stream room

@@ -5,10 +5,10 @@ use Rattle.std.proofs.Math.Option.{Option, some}
 use Rattle.std.proofs.Math.Option as Opt
 use Rattle.slices.specs.If.{if◌then◌else◌}
 use Rattle.answer.specs.declared.Answer.{Answer}
-use Rattle.slices.specs.Lists.{OfBytes, sameBytes}
-use Rattle.digest.specs.Message.{digestOf}
+use Rattle.slices.specs.Lists.{OfBytes, same_bytes}
+use Rattle.digest.specs.Message.{digest_of}
 use Rattle.digest.specs.Sha256.{sha256}
-use Rattle.stream.specs.Walk.{leftIn}
+use Rattle.stream.specs.Walk.{left_in}
 use Rattle.mac.specs.declared.verdict.Verdict.{Verdict}
 use Rattle.mac.specs.declared.verdict.Verdict.TheVariants as verdict
 use Rattle.mac.specs.declared.verdict.Checked.{Checked}
@@ -20,12 +20,12 @@ pub record Result : Type 0 where
   pub expected : Option (List ℕ)
 
 -- accepted, a term of RULES 7.1: "A call with number 0 is accepted."
-abbrev pub isAccepted : Result → Bool
-isAccepted c = eqb c.answer.number 0
+abbrev pub is_accepted : Result → Bool
+is_accepted c = eqb c.answer.number 0
 
 -- what is left in the output or work buffer `out`: 7.3, 7.4
-unfoldable pub outputAfter : Result → (out : List ℕ) → List ℕ
-outputAfter c out = leftIn c.answer c.stream out
+unfoldable pub output_after : Result → (out : List ℕ) → List ℕ
+output_after c out = left_in c.answer c.stream out
 
 -- what a check says, as a number; a call for the stream says neither
 abbrev pub neither : ℕ
@@ -38,19 +38,19 @@ abbrev pub differs : ℕ
 differs = 2
 
 -- the cases of Verdict (src/verdict.rt), by their numbers (13.2)
-abbrev pub verdictCode : Verdict → ℕ
-verdictCode verdict.Neither = neither
-verdictCode verdict.Same = same
-verdictCode verdict.Differs = differs
+abbrev pub verdict_code : Verdict → ℕ
+verdict_code verdict.Neither = neither
+verdict_code verdict.Same = same
+verdict_code verdict.Differs = differs
 
 -- of a check, by its expected digest
 abbrev pub compared : Option (List ℕ) → (digest : List ℕ) → ℕ
 compared Opt.none digest = neither
-compared (some e) digest = if sameBytes digest e then same else differs
+compared (some e) digest = if same_bytes digest e then same else differs
 
 -- 7.4: an accepted check says "same" or "differs". "A check that is refused says neither of the two."
-unfoldable pub verdictOf : Result → ℕ
-verdictOf c = if isAccepted c then compared c.expected (digestOf sha256 c.stream) else neither
+unfoldable pub verdict_of : Result → ℕ
+verdict_of c = if is_accepted c then compared c.expected (digest_of sha256 c.stream) else neither
 
 -- ---- what the functions promise
 
@@ -58,12 +58,12 @@ verdictOf c = if isAccepted c then compared c.expected (digestOf sha256 c.stream
 -- list of bytes, on which demand 3 rests.
 pub record Streamed (c : Result) (set out : List ℕ) (r : Answer) (after : List ℕ) : Type 0 where
   pub answers : r ≡ c.answer
-  pub output : after ≡ outputAfter c out
+  pub output : after ≡ output_after c out
   pub bytes : OfBytes set
 
 -- what a check gives back, r, and leaves in the work buffer
 pub record CheckedAs (c : Result) (set work : List ℕ) (r : Checked) (after : List ℕ) : Type 0 where
   pub answers : r.answer ≡ c.answer
-  pub says : verdictCode r.verdict ≡ verdictOf c
-  pub output : after ≡ outputAfter c work
+  pub says : verdict_code r.verdict ≡ verdict_of c
+  pub output : after ≡ output_after c work
   pub bytes : OfBytes set

@@ -1,7 +1,7 @@
 // Signature mode: the stream of a signature in the data set, its measuring, and the check of its digest.
 ghost use Rattle.std.specs.Prelude.{◌≡◌, ◌≤◌, length};
 ghost use Rattle.mac.specs.Result.{Streamed, CheckedAs};
-ghost use Rattle.mac.specs.SignatureMode.{measure, streamCall, checkCall, result};
+ghost use Rattle.mac.specs.SignatureMode.{measure, stream_call, check_call, result};
 ghost use Rattle.mac.specs.Inner.Calls.{SignatureSelected, SelectedWritten};
 
 use crate::verdict;
@@ -59,7 +59,7 @@ fn write_selected(d: &[u8], selected: Selected, expected: ExpectedLength, out: &
 
 // The stream of a signature in a data set, into the output: with the UID of the data set's transfer syntax.
 pub fn signature_stream(uid: &[u8], which: Signature, d: &[u8], out: &mut [u8]) -> Answer
-    ensures* { λ r. ⌜ Streamed (result (streamCall uid.now which d.now out.old)) d.now out.old r out.new ⌝ }
+    ensures* { λ r. ⌜ Streamed (result (stream_call uid.now which d.now out.old)) d.now out.old r out.new ⌝ }
 {
     match select_whole(uid, which, d) {
         Selection::Refused(answer) => answer,
@@ -75,7 +75,7 @@ pub fn signature_check(
     expected: &[u8],
     work: &mut [u8],
 ) -> Checked
-    ensures* { λ r. ⌜ CheckedAs (result (checkCall uid.now which d.now expected.now work.old)) d.now work.old r work.new ⌝ }
+    ensures* { λ r. ⌜ CheckedAs (result (check_call uid.now which d.now expected.now work.old)) d.now work.old r work.new ⌝ }
 {
     match select_whole(uid, which, d) {
         Selection::Refused(answer) => verdict::refused(answer),

@@ -2,8 +2,8 @@
 ghost use Rattle.std.specs.Prelude.{◌≡◌, ◌≤◌, length};
 ghost use Rattle.std.proofs.Math.Option.{some};
 ghost use Rattle.digest.specs.Message.{hashing};
-ghost use Rattle.mac.specs.Result.{verdictCode, compared};
-ghost use Rattle.mac.specs.Inner.Verdict.{CheckOf, digestLength, standard, lengthAnswer, refusedCheck};
+ghost use Rattle.mac.specs.Result.{verdict_code, compared};
+ghost use Rattle.mac.specs.Inner.Verdict.{CheckOf, digest_length, standard, length_answer, refused_check};
 
 use answer::Answer;
 use digest::message;
@@ -34,7 +34,7 @@ pub(crate) enum ExpectedLength {
 
 // How many bytes the digests of an algorithm have.
 fn digest_length(algorithm: Algorithm) -> usize
-    ensures { result ≡ digestLength algorithm }
+    ensures { result ≡ digest_length algorithm }
 {
     match algorithm {
         Algorithm::Sha256 => 32,
@@ -52,7 +52,7 @@ fn digest_by(algorithm: Algorithm, message: &[u8]) -> Hashed
 
 // 9, where an expected digest has not the length of the algorithm's; or else number 0.
 pub(crate) fn length_answer(algorithm: Algorithm, expected: ExpectedLength) -> Answer
-    ensures { result ≡ lengthAnswer algorithm expected }
+    ensures { result ≡ length_answer algorithm expected }
 {
     let ExpectedLength::Length(length) = expected else {
         return Answer::accepted(0);
@@ -66,7 +66,7 @@ pub(crate) fn length_answer(algorithm: Algorithm, expected: ExpectedLength) -> A
 
 // What a check says of the digest of its stream.
 fn verdict_of(digest: &[u8], expected: &[u8]) -> Verdict
-    ensures { verdictCode result ≡ compared (some expected.now) digest.now }
+    ensures { verdict_code result ≡ compared (some expected.now) digest.now }
 {
     if slices::same(digest, expected) {
         return Verdict::Same;
@@ -76,7 +76,7 @@ fn verdict_of(digest: &[u8], expected: &[u8]) -> Verdict
 
 // A check that is refused.
 pub(crate) fn refused(answer: Answer) -> Checked
-    ensures { result ≡ refusedCheck answer }
+    ensures { result ≡ refused_check answer }
 {
     Checked {
         answer,

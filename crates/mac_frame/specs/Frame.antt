@@ -6,21 +6,21 @@ use Rattle.std.proofs.lemmas.List.Edits.{sets}
 use Rattle.slices.specs.If.{if◌then◌else◌}
 use Rattle.answer.specs.Answer.{refused}
 use Rattle.slices.specs.Lists.{between}
-use Rattle.mac.specs.Result.{isAccepted}
+use Rattle.mac.specs.Result.{is_accepted}
 use Rattle.mac.specs.ListMode.{Call, answer, stream, result}
-use Rattle.mac_frame.specs.Text.{line, hexLines}
+use Rattle.mac_frame.specs.Text.{line, hex_lines}
 use Rattle.mac_frame.specs.declared.frame.Frame.{Frame}
 use Rattle.mac_frame.specs.declared.frame.Frame.TheVariants as frame
 
 -- Frame (src/frame.rt): Bad | ListEnds end
 
 -- 11.1: "Its standard input is a frame of at most 65,536 bytes"
-abbrev pub inputLimit : ℕ
-inputLimit = 65536
+abbrev pub input_limit : ℕ
+input_limit = 65536
 
 -- 11.2: "the output room is 65,536 bytes"
-abbrev pub outputRoom : ℕ
-outputRoom = 65536
+abbrev pub output_room : ℕ
+output_room = 65536
 
 -- the length at i, "itself four bytes with the high byte first" (11.1)
 unfoldable pub big32 : List ℕ → (i : ℕ) → ℕ
@@ -30,7 +30,7 @@ big32 s i = get_or s i 0 * 2 ^ 24 + get_or s (i + 1) 0 * 2 ^ 16 + get_or s (i + 
 -- and no byte more": where the list ends, or a bad frame. (5 bytes: version and first length; 9: with the second length.)
 unfoldable pub frame_of : List ℕ → Frame
 frame_of s =
-    if ltb inputLimit (length s) then frame.Bad else
+    if ltb input_limit (length s) then frame.Bad else
     if ltb (length s) 5 then frame.Bad else
     if not (eqb (get_or s 0 0) 1) then frame.Bad else
     if ltb (length s) (9 + big32 s 1) then frame.Bad else
@@ -38,21 +38,21 @@ frame_of s =
     frame.ListEnds (5 + big32 s 1)
 
 -- the call of list mode for a frame whose list ends at `end`
-abbrev pub frameCall : List ℕ → (end : ℕ) → Call
-frameCall s end = record { list = between s 5 end; set = between s (end + 4) (length s); room = outputRoom; expected = Opt.none }
+abbrev pub frame_call : List ℕ → (end : ℕ) → Call
+frame_call s end = record { list = between s 5 end; set = between s (end + 4) (length s); room = output_room; expected = Opt.none }
 
 -- 11.3: "It prints number, position and length ..; then, for number 0, the stream in hex"
 unfoldable pub report : Call → List ℕ
-report c = line (answer c) ++ (if isAccepted (result c) then hexLines (stream c) else [])
+report c = line (answer c) ++ (if is_accepted (result c) then hex_lines (stream c) else [])
 
 -- 11.1: "Any other input gives 24, before every other number."
-abbrev pub printedBy : Frame → List ℕ → List ℕ
-printedBy frame.Bad s = line (refused 24 0)
-printedBy (frame.ListEnds end) s = report (frameCall s end)
+abbrev pub printed_by : Frame → List ℕ → List ℕ
+printed_by frame.Bad s = line (refused 24 0)
+printed_by (frame.ListEnds end) s = report (frame_call s end)
 
 -- what the program prints for the input s
 unfoldable pub printed : List ℕ → List ℕ
-printed s = printedBy (frame_of s) s
+printed s = printed_by (frame_of s) s
 
 -- What `print_frame` gives back, r: the number of bytes to print; and leaves in the array that it is lent for the text: these bytes, all of
 -- them (docs/DECISIONS.md, L9), and what stood behind them.

@@ -15,21 +15,21 @@ abbrev pub digit : ℕ → ℕ
 digit n = if ltb n 10 then 0x30 + n else 0x57 + n
 
 -- the digits of n in decimal, in at most k steps
-unfoldable pub decimalBy : (k n : ℕ) → List ℕ
-decimalBy zero n = []
-decimalBy (suc k) n = if ltb n 10 then digit n ∷ [] else decimalBy k (n / 10) ++ (digit (n % 10) ∷ [])
+unfoldable pub decimal_by : (k n : ℕ) → List ℕ
+decimal_by zero n = []
+decimal_by (suc k) n = if ltb n 10 then digit n ∷ [] else decimal_by k (n / 10) ++ (digit (n % 10) ∷ [])
 
 -- "in decimal" (11.3): n + 1 steps are enough
 unfoldable pub decimal : ℕ → List ℕ
-decimal n = decimalBy (suc n) n
+decimal n = decimal_by (suc n) n
 
 -- a number in decimal and what stands behind it
-unfoldable pub decimalThen : (n end : ℕ) → List ℕ
-decimalThen n end = decimal n ++ (end ∷ [])
+unfoldable pub decimal_then : (n end : ℕ) → List ℕ
+decimal_then n end = decimal n ++ (end ∷ [])
 
 -- 11.3: "number, position and length in decimal, with one space between"
 unfoldable pub line : Answer → List ℕ
-line a = decimalThen a.number space ++ (decimalThen a.position space ++ decimalThen a.length newline)
+line a = decimal_then a.number space ++ (decimal_then a.position space ++ decimal_then a.length newline)
 
 -- a byte in lower-case hex
 abbrev pub hex : ℕ → List ℕ
@@ -40,14 +40,14 @@ is_empty [] = true
 is_empty (b ∷ rest) = false
 
 -- the line's end, or nothing
-abbrev pub lineEnd : Bool → List ℕ
-lineEnd true = newline ∷ []
-lineEnd false = []
+abbrev pub line_end : Bool → List ℕ
+line_end true = newline ∷ []
+line_end false = []
 
 -- 11.3: "in hex, in lower case, 32 bytes a line": the bytes from a column on; a line ends after its 32nd byte and after the last
-unfoldable pub hexFrom : (column : ℕ) → List ℕ → List ℕ
-hexFrom column [] = []
-hexFrom column (b ∷ rest) = hex b ++ (lineEnd (eqb column 31 || is_empty rest) ++ hexFrom ((column + 1) % 32) rest)
+unfoldable pub hex_from : (column : ℕ) → List ℕ → List ℕ
+hex_from column [] = []
+hex_from column (b ∷ rest) = hex b ++ (line_end (eqb column 31 || is_empty rest) ++ hex_from ((column + 1) % 32) rest)
 
-abbrev pub hexLines : List ℕ → List ℕ
-hexLines bytes = hexFrom 0 bytes
+abbrev pub hex_lines : List ℕ → List ℕ
+hex_lines bytes = hex_from 0 bytes

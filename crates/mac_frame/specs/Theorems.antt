@@ -4,7 +4,7 @@
 use Rattle.std.specs.Prelude.{ℕ, ◌+◌, ◌≤◌, ◌≡◌, List, ◌∷◌, ◌++◌, length}
 use Rattle.std.proofs.Math.Option as Opt
 use Rattle.mac.specs.ListMode.{Call}
-use Rattle.mac_frame.specs.Frame.{inputLimit, outputRoom, big32, frame_of, frameCall}
+use Rattle.mac_frame.specs.Frame.{input_limit, output_room, big32, frame_of, frame_call}
 use Rattle.mac_frame.specs.declared.frame.Frame.TheVariants as frame
 
 -- RULES, 11.1: "a frame of at most 65,536 bytes: the byte 1 for the version; a length in bytes, itself four bytes with the high byte first,
@@ -15,23 +15,23 @@ pub record Framed (s list set : List ℕ) : Type 0 where
   pub four : (length n ≡ 4) × (length m ≡ 4)
   pub lengths : (big32 n 0 ≡ length list) × (big32 m 0 ≡ length set)
   pub is : s ≡ 1 ∷ (n ++ (list ++ (m ++ set)))
-  pub small : length s ≤ inputLimit
+  pub small : length s ≤ input_limit
 
 -- 11.2: "Its call is one of list mode; the output room is 65,536 bytes."
 abbrev pub call_of : (list set : List ℕ) → Call
-call_of list set = record { list = list; set = set; room = outputRoom; expected = Opt.none }
+call_of list set = record { list = list; set = set; room = output_room; expected = Opt.none }
 
 -- such an input is a good frame, and list mode is run with this list and this data set
 pub record ReadBack (s list set : List ℕ) : Type 0 where
   pub good : frame_of s ≡ frame.ListEnds (5 + length list)
-  pub call : frameCall s (5 + length list) ≡ call_of list set
+  pub call : frame_call s (5 + length list) ≡ call_of list set
 
 abbrev pub FramesRead : Type 0
 FramesRead = (s list set : List ℕ) → Framed s list set → ReadBack s list set
 
 -- and nothing else is a good frame
 abbrev pub OnlyFrames : Type 0
-OnlyFrames = (s : List ℕ) (end : ℕ) → frame_of s ≡ frame.ListEnds end → Framed s (frameCall s end).list (frameCall s end).set
+OnlyFrames = (s : List ℕ) (end : ℕ) → frame_of s ≡ frame.ListEnds end → Framed s (frame_call s end).list (frame_call s end).set
 
 -- all of them
 pub record Theorems : Type 0 where

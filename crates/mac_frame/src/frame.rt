@@ -64,7 +64,7 @@ fn output() -> [u8; 65536] {
 // Runs list mode on the frame whose list ends at `end`, and writes what is to be printed.
 fn report(input: &[u8], end: usize, text: &mut [u8]) -> usize
     requires { Holds input.now end }
-    ensures { Wrote text.old 0 (Spec.report (Spec.frameCall input.now end)) result text.new }
+    ensures { Wrote text.old 0 (Spec.report (Spec.frame_call input.now end)) result text.new }
 {
     let mut out = output();
     let from = end + 4;

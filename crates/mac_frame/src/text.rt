@@ -41,7 +41,7 @@ fn put_decimal(text: &mut [u8], at: usize, n: u64) -> usize
 
 fn put_decimal_then(text: &mut [u8], at: usize, n: u64, end: u8) -> usize
     requires { at < 2 ^ 61 }
-    ensures { Wrote text.old at (Spec.decimalThen n end) result text.new }
+    ensures { Wrote text.old at (Spec.decimal_then n end) result text.new }
 {
     let next = put_decimal(text, at, n);
     put_byte(text, next, end);
@@ -60,7 +60,7 @@ pub(crate) fn put_line(text: &mut [u8], at: usize, answer: Answer) -> usize
 // A byte in hex, and the line's end where it ends the line.
 fn put_hex(text: &mut [u8], at: usize, b: u8, ends: bool) -> usize
     requires { at < 2 ^ 62 }
-    ensures { Wrote text.old at (Spec.hex b ++ Spec.lineEnd ends) result text.new }
+    ensures { Wrote text.old at (Spec.hex b ++ Spec.line_end ends) result text.new }
 {
     let high = digit(b / 16);
     let low = digit(b % 16);
@@ -86,7 +86,7 @@ fn ends_line(i: usize, n: usize) -> bool
 
 pub(crate) fn put_lines(text: &mut [u8], from: usize, bytes: &[u8]) -> usize
     requires { (from < 2 ^ 60) × (length bytes.now ≤ 2 ^ 32) }
-    ensures { Wrote text.old from (Spec.hexLines bytes.now) result text.new }
+    ensures { Wrote text.old from (Spec.hex_lines bytes.now) result text.new }
 {
     let mut at = from;
     let mut i: usize = 0;

@@ -12,57 +12,57 @@ use lib.ListN.{length, take}
 use borrow.Author.Tests.{eqb-true, eqb-false, eq-eqb}
 use Rattle.answer.specs.declared.Answer.{Answer}
 use Rattle.slices.specs.If.{if◌then◌else◌}
-use Rattle.answer.specs.Answer.{◌orElse◌}
-use Rattle.dataset.proofs.laws.reading.Guarantees.{DataSetIs, data-set-read}
-use Rattle.digest.specs.Message.{digestOf}
+use Rattle.answer.specs.Answer.{◌or_else◌}
+use Rattle.dataset.proofs.Laws.Reading.Guarantees.{DataSetIs, data-set-read}
+use Rattle.digest.specs.Message.{digest_of}
 use Rattle.digest.specs.Sha256.{sha256}
 use Rattle.slices.specs.Lists.{OfBytes}
 use Rattle.dataset.proofs.Theorems.{well-formed-accepted, accepted-well-formed}
 use Rattle.dataset.specs.Reading.{answer_of, tree}
-use Rattle.stream.specs.TagList.{tagsIn, listAnswer}
+use Rattle.stream.specs.TagList.{tags_in, list_answer}
 use Rattle.stream.specs.Content.{SignedElements}
-use Rattle.mac.specs.Modes.{answerFrom9}
-use Rattle.mac.specs.Result.{neither, compared, isAccepted, verdictOf}
-use Rattle.mac.specs.ListMode.{Call, contentOf, streamIn, stream, answerTo15, answer, streamCall, result}
+use Rattle.mac.specs.Modes.{answer_from9}
+use Rattle.mac.specs.Result.{neither, compared, is_accepted, verdict_of}
+use Rattle.mac.specs.ListMode.{Call, content_of, stream_in, stream, answer_to15, answer, stream_call, result}
 use Rattle.mac.specs.SignatureMode as mode
-use Rattle.mac_theorems.specs.Calls.{inListMode, Run, PromisedRuns}
-use Rattle.mac_theorems.specs.Demand3.{signedInFragments, listedHoldUN, on, written, FirstHalf, HasSignedContent, SecondHalf, AcceptedHasContent, Demand3}
-use Rattle.mac_theorems.proofs.laws.demand3.Encoding.{encodeElements}
-use Rattle.mac_theorems.proofs.laws.demand3.Injective.{ElementsFit, injective}
-use Rattle.mac_theorems.proofs.laws.demand3.Fitting.{WithinSize}
-use Rattle.mac_theorems.proofs.laws.answers.ListedElements.{HasContent, has-content}
-use Rattle.mac_theorems.proofs.laws.demand3.ListedContent.{listed-encoded, content-fits, same-tags, none-hold}
-use Rattle.mac_theorems.proofs.laws.answers.EveryAnswer.{answer-regular}
-use Rattle.mac_theorems.proofs.laws.answers.Outputs.{output-stream}
-use Rattle.mac_theorems.proofs.laws.answers.Acceptance.{Accepted, IsRead, is_read, Accepts, accepts, to15-read, answer-accepted}
+use Rattle.mac_theorems.specs.Calls.{in_list_mode, Run, PromisedRuns}
+use Rattle.mac_theorems.specs.Demand3.{signed_in_fragments, listed_hold_un, on, written, FirstHalf, HasSignedContent, SecondHalf, AcceptedHasContent, Demand3}
+use Rattle.mac_theorems.proofs.Laws.Demand3.Encoding.{encode_elements}
+use Rattle.mac_theorems.proofs.Laws.Demand3.Injective.{ElementsFit, injective}
+use Rattle.mac_theorems.proofs.Laws.Demand3.Fitting.{WithinSize}
+use Rattle.mac_theorems.proofs.Laws.Answers.ListedElements.{HasContent, has-content}
+use Rattle.mac_theorems.proofs.Laws.Demand3.ListedContent.{listed-encoded, content-fits, same-tags, none-hold}
+use Rattle.mac_theorems.proofs.Laws.Answers.EveryAnswer.{answer-regular}
+use Rattle.mac_theorems.proofs.Laws.Answers.Outputs.{output-stream}
+use Rattle.mac_theorems.proofs.Laws.Answers.Acceptance.{Accepted, IsRead, is_read, Accepts, accepts, to15-read, answer-accepted}
 
 -- ---- the stream of a call is the encoding of its signed content
-module _ (c : Call) (b : OfBytes c.set) (r : IsRead c.set) (row : SignedElements) (is : contentOf c ≡ some row) where
+module _ (c : Call) (b : OfBytes c.set) (r : IsRead c.set) (row : SignedElements) (is : content_of c ≡ some row) where
   placed : DataSetIs c.set (tree c.set) r.next
   placed = data-set-read c.set (tree c.set) r.next r.is
 
   within : WithinSize c.set
   within = record { bytes = b; small = placed.small }
 
-  stream-encoded : stream c ≡ encodeElements row
-  unfolding streamIn contentOf
-  stream-encoded = listed-encoded c.set within (tree c.set) _ 0 0 r.next placed.tree (tagsIn c.list) row is
+  stream-encoded : stream c ≡ encode_elements row
+  unfolding stream_in content_of
+  stream-encoded = listed-encoded c.set within (tree c.set) _ 0 0 r.next placed.tree (tags_in c.list) row is
 
   call_fits : ElementsFit row
-  unfolding contentOf
-  call_fits = content-fits c.set within (tree c.set) _ 0 0 r.next placed.tree (tagsIn c.list) row is
+  unfolding content_of
+  call_fits = content-fits c.set within (tree c.set) _ 0 0 r.next placed.tree (tags_in c.list) row is
 
 -- an accepted call has a signed content
-call-has-content : (c : Call) → Accepts c → HasContent (tagsIn c.list) (tree c.set) c.set
-call-has-content c a = has-content (tagsIn c.list) 0 (tree c.set) c.set a.found
+call-has-content : (c : Call) → Accepts c → HasContent (tags_in c.list) (tree c.set) c.set
+call-has-content c a = has-content (tags_in c.list) 0 (tree c.set) c.set a.found
 
 number-0 : (c : Call) → Accepted c → (answer c).number ≡ 0
 number-0 c h = eqb-true (answer c).number 0 h
 
 -- ---- over the definitions
-accepted-streams : (c k : Call) → OfBytes c.set → OfBytes k.set → Accepted c → Accepted k → signedInFragments (contentOf c) ≡ false
-    → (stream c ≡ stream k) ↔ (contentOf c ≡ contentOf k)
-unfolding contentOf
+accepted-streams : (c k : Call) → OfBytes c.set → OfBytes k.set → Accepted c → Accepted k → signed_in_fragments (content_of c) ≡ false
+    → (stream c ≡ stream k) ↔ (content_of c ≡ content_of k)
+unfolding content_of
 accepted-streams c k b b' h h' n = (there, here)
   where
     a : Accepts c
@@ -71,47 +71,47 @@ accepted-streams c k b b' h h' n = (there, here)
     a' : Accepts k
     a' = accepts k (number-0 k h')
 
-    s : HasContent (tagsIn c.list) (tree c.set) c.set
+    s : HasContent (tags_in c.list) (tree c.set) c.set
     s = call-has-content c a
 
-    s' : HasContent (tagsIn k.list) (tree k.set) k.set
+    s' : HasContent (tags_in k.list) (tree k.set) k.set
     s' = call-has-content k a'
 
-    e : stream c ≡ encodeElements s.row
+    e : stream c ≡ encode_elements s.row
     e = stream-encoded c b a.read s.row s.is
 
-    e' : stream k ≡ encodeElements s'.row
+    e' : stream k ≡ encode_elements s'.row
     e' = stream-encoded k b' a'.read s'.row s'.is
 
-    there : stream c ≡ stream k → contentOf c ≡ contentOf k
+    there : stream c ≡ stream k → content_of c ≡ content_of k
     there q =
         s.is
         ∙ ap some
         (injective s.row s'.row (call_fits c b a.read s.row s.is) (call_fits k b' a'.read s'.row s'.is)
-        (sym (ap signedInFragments s.is) ∙ n) (sym e ∙ q ∙ e'))
+        (sym (ap signed_in_fragments s.is) ∙ n) (sym e ∙ q ∙ e'))
         ∙ sym s'.is
 
-    here : contentOf c ≡ contentOf k → stream c ≡ stream k
-    here q = let r : s.row ≡ s'.row = cc (s.is, s'.is, q) in e ∙ ap encodeElements r ∙ sym e'
+    here : content_of c ≡ content_of k → stream c ≡ stream k
+    here q = let r : s.row ≡ s'.row = cc (s.is, s'.is, q) in e ∙ ap encode_elements r ∙ sym e'
 
-same-verdict : (c : Call) (d : List ℕ) → answer (on c d) ≡ answer c → stream (on c d) ≡ stream c → verdictOf (result (on c d)) ≡ verdictOf (result c)
-unfolding verdictOf
+same-verdict : (c : Call) (d : List ℕ) → answer (on c d) ≡ answer c → stream (on c d) ≡ stream c → verdict_of (result (on c d)) ≡ verdict_of (result c)
+unfolding verdict_of
 same-verdict c d a s =
-    ap₂ (λ (x : Answer) (y : List ℕ). if eqb x.number 0 then compared c.expected (digestOf sha256 y) else neither) a s
+    ap₂ (λ (x : Answer) (y : List ℕ). if eqb x.number 0 then compared c.expected (digest_of sha256 y) else neither) a s
 
 -- the order up to 15
-same-to15 : (c : Call) (d : List ℕ) (row : SignedElements) → contentOf c ≡ some row → contentOf (on c d) ≡ contentOf c → listedHoldUN (tagsIn c.list) (tree c.set) ≡ false
-    → listedHoldUN (tagsIn c.list) (tree d) ≡ false → IsRead c.set → IsRead d → answerTo15 c.list d ≡ answerTo15 c.list c.set
-unfolding contentOf
+same-to15 : (c : Call) (d : List ℕ) (row : SignedElements) → content_of c ≡ some row → content_of (on c d) ≡ content_of c → listed_hold_un (tags_in c.list) (tree c.set) ≡ false
+    → listed_hold_un (tags_in c.list) (tree d) ≡ false → IsRead c.set → IsRead d → answer_to15 c.list d ≡ answer_to15 c.list c.set
+unfolding content_of
 same-to15 c d row is same m n r r' =
     to15-read c.list d r'
-    ∙ ap (λ (x : Answer). listAnswer c.list or_else x) (same-tags (tagsIn c.list) 0 (tree d) (tree c.set) d c.set row (same ∙ is) is n m)
+    ∙ ap (λ (x : Answer). list_answer c.list or_else x) (same-tags (tags_in c.list) 0 (tree d) (tree c.set) d c.set row (same ∙ is) is n m)
     ∙ sym (to15-read c.list c.set r)
 
 -- the whole order
-same_answer : (c : Call) (d : List ℕ) → answerTo15 c.list d ≡ answerTo15 c.list c.set → stream (on c d) ≡ stream c → answer (on c d) ≡ answer c
+same_answer : (c : Call) (d : List ℕ) → answer_to15 c.list d ≡ answer_to15 c.list c.set → stream (on c d) ≡ stream c → answer (on c d) ≡ answer c
 unfolding answer
-same_answer c d first streams = ap₂ (λ (x : Answer) (y : List ℕ). x or_else answerFrom9 y c.room c.expected) first streams
+same_answer c d first streams = ap₂ (λ (x : Answer) (y : List ℕ). x or_else answer_from9 y c.room c.expected) first streams
 
 -- a content that is there
 record Row (o : Option SignedElements) : Type 0 where
@@ -125,24 +125,24 @@ row_of (some row) h = record { row = row; is = refl }
 -- the two calls have the same answer, verdict and stream
 record SameResult (c k : Call) : Type 0 where
   pub answers : answer k ≡ answer c
-  pub verdicts : verdictOf (result k) ≡ verdictOf (result c)
+  pub verdicts : verdict_of (result k) ≡ verdict_of (result c)
   pub streams : stream k ≡ stream c
 
 same-content : (c : Call) (s : List ℕ) → OfBytes c.set → OfBytes s → HasSignedContent c → HasSignedContent (on c s)
-    → contentOf (on c s) ≡ contentOf c → SameResult c (on c s)
+    → content_of (on c s) ≡ content_of c → SameResult c (on c s)
 same-content c d b b' g g' same = record { answers = answers; verdicts = same-verdict c d answers streams; streams = streams }
   where
     k : Call
     k = on c d
 
     r : IsRead c.set
-    r = is_read c.set (ap (λ (x : Answer). x.number) (well-formed-accepted c.set g.wellFormed))
+    r = is_read c.set (ap (λ (x : Answer). x.number) (well-formed-accepted c.set g.well_formed))
 
     r' : IsRead d
-    r' = is_read d (ap (λ (x : Answer). x.number) (well-formed-accepted d g'.wellFormed))
+    r' = is_read d (ap (λ (x : Answer). x.number) (well-formed-accepted d g'.well_formed))
 
-    s : Row (contentOf c)
-    s = row_of (contentOf c) g.holds
+    s : Row (content_of c)
+    s = row_of (content_of c) g.holds
 
     streams : stream (on c d) ≡ stream c
     streams = stream-encoded (on c d) b' r' s.row (same ∙ s.is) ∙ sym (stream-encoded c b r s.row s.is)
@@ -159,12 +159,12 @@ stream-says true = refl
 stream-says false = refl
 
 promised : PromisedRuns
-unfolding verdictOf
+unfolding verdict_of
 promised = record {
   list-stream = λ list set out after r u. record {
     room = refl;
     answers = u.answers;
-    says = stream-says (isAccepted (result (streamCall list set out)));
+    says = stream-says (is_accepted (result (stream_call list set out)));
     output = u.output;
     bytes = u.bytes;
   };
@@ -172,14 +172,14 @@ promised = record {
   signature-stream = λ uid which set out after r u. record {
     room = refl;
     answers = u.answers;
-    says = stream-says (isAccepted (mode.result (mode.streamCall uid which set out)));
+    says = stream-says (is_accepted (mode.result (mode.stream_call uid which set out)));
     output = u.output;
     bytes = u.bytes;
   };
   signature-check = λ uid which set expected work after r u. record { room = refl; answers = u.answers; says = u.says; output = u.output; bytes = u.bytes };
 }
 
-module _ (c : Call) (out after : List ℕ) (a : Answer) (said : ℕ) (u : Run (inListMode c) out a said after) where
+module _ (c : Call) (out after : List ℕ) (a : Answer) (said : ℕ) (u : Run (in_list_mode c) out a said after) where
   run-accepted : a.number ≡ 0 → Accepted c
   run-accepted h = eq-eqb (answer c).number 0 (ap (λ (x : Answer). x.number) (sym u.answers) ∙ h)
 
@@ -229,14 +229,14 @@ second-half c s out out' after after' a a' said said' u u' g g' same = record {
         nothing_written (on c s) out' after' a' said' u' (λ z. n (sym number ∙ z)) ∙ sym (nothing_written c out after a said u n)
 
 accepted-has-content : AcceptedHasContent
-unfolding contentOf
+unfolding content_of
 accepted-has-content c out after a said u h =
     let x = accepts c (number-0 c (run-accepted c out after a said u h)) in
     let r = call-has-content c x in
     record {
-      wellFormed = accepted-well-formed c.set (ap answer_of x.read.is);
+      well_formed = accepted-well-formed c.set (ap answer_of x.read.is);
       holds = λ e. let z : ◌≡◌ {A = ℕ} 0 1 = cc (r.is, e) in omega arith;
-      known = none-hold (tagsIn c.list) 0 (tree c.set) x.found;
+      known = none-hold (tags_in c.list) 0 (tree c.set) x.found;
     }
 
 pub demand-3 : Demand3

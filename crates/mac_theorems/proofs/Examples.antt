@@ -2,28 +2,28 @@
 use mathlib.Core.Path.{refl}
 use mathlib.Core.Bool.{true≢false}
 use Rattle.slices.specs.If.{if◌then◌else◌}
-use Rattle.answer.specs.Answer.{◌orElse◌}
-use Rattle.dataset.specs.Bytes.{num16, num32, tag_at, vrAt}
+use Rattle.answer.specs.Answer.{◌or_else◌}
+use Rattle.dataset.specs.Bytes.{num16, num32, tag_at, vr_at}
 use Rattle.slices.specs.Lists.{between}
 use Rattle.dataset.specs.Vr.{form_of, one_of}
-use Rattle.dataset.specs.Header.{ends_at, closedBy, badLength, tooDeep, undefinedBy, definedBy, valueBy, longAt, byForm, vrOnAt, elementAt, itemBy, item_at}
-use Rattle.dataset.specs.Reading.{byHeader, byOne, byItem, byFragment, fragmentsBy, elementsBy, elementsAt, dataSet, sizeAnswer, unlessRefused}
-use Rattle.dataset.specs.Lookup.{elementOf}
-use Rattle.stream.specs.TagList.{tagsIn, barred, badSize, ascendingAnswer, unbarredAnswer, listAnswer}
-use Rattle.stream.specs.Content.{fragmentBytes, signed, content}
-use Rattle.stream.specs.Stream.{fragmentsStream, streamOf, listedStream}
-use Rattle.stream.specs.UN.{holdsUN}
-use Rattle.stream.specs.Listed.{elementAnswer, tagsAnswer}
-use Rattle.mac.specs.Modes.{answerFrom9}
-use Rattle.mac.specs.Result.{outputAfter}
-use Rattle.stream.specs.Walk.{answerFrom16, leftIn}
-use Rattle.mac.specs.ListMode.{contentOf, streamIn, answerTo15, answer}
+use Rattle.dataset.specs.Header.{ends_at, closed_by, bad_length, too_deep, undefined_by, defined_by, value_by, long_at, by_form, vr_on_at, element_at, item_by, item_at}
+use Rattle.dataset.specs.Reading.{by_header, by_one, by_item, by_fragment, fragments_by, elements_by, elements_at, data_set, size_answer, unless_refused}
+use Rattle.dataset.specs.Lookup.{element_of}
+use Rattle.stream.specs.TagList.{tags_in, barred, bad_size, ascending_answer, unbarred_answer, list_answer}
+use Rattle.stream.specs.Content.{fragment_bytes, signed, content}
+use Rattle.stream.specs.Stream.{fragments_stream, stream_of, listed_stream}
+use Rattle.stream.specs.UN.{holds_un}
+use Rattle.stream.specs.Listed.{element_answer, tags_answer}
+use Rattle.mac.specs.Modes.{answer_from9}
+use Rattle.mac.specs.Result.{output_after}
+use Rattle.stream.specs.Walk.{answer_from16, left_in}
+use Rattle.mac.specs.ListMode.{content_of, stream_in, answer_to15, answer}
 use Rattle.mac_theorems.specs.Examples.{examples, ExamplesHold, ContentsHold}
 
 pub examples-hold : ExamplesHold
-unfolding examples answer answerTo15 answerFrom9 answerFrom16 outputAfter leftIn streamIn ◌orElse◌ if◌then◌else◌ listAnswer badSize ascendingAnswer unbarredAnswer barred tagsIn tagsAnswer elementAnswer holdsUN listedStream streamOf fragmentsStream elementOf dataSet sizeAnswer unlessRefused elementsAt elementsBy fragmentsBy byHeader byOne byItem byFragment elementAt vrOnAt byForm longAt badLength tooDeep undefinedBy definedBy valueBy item_at itemBy ends_at closedBy form_of one_of num16 num32 tag_at vrAt between
+unfolding examples answer answer_to15 answer_from9 answer_from16 output_after left_in stream_in ◌or_else◌ if◌then◌else◌ list_answer bad_size ascending_answer unbarred_answer barred tags_in tags_answer element_answer holds_un listed_stream stream_of fragments_stream element_of data_set size_answer unless_refused elements_at elements_by fragments_by by_header by_one by_item by_fragment element_at vr_on_at by_form long_at bad_length too_deep undefined_by defined_by value_by item_at item_by ends_at closed_by form_of one_of num16 num32 tag_at vr_at between
 examples-hold = refl
 
 pub contents-hold : ContentsHold
-unfolding contentOf content signed fragmentBytes tagsIn barred elementOf dataSet sizeAnswer unlessRefused elementsAt elementsBy fragmentsBy byHeader byOne byItem byFragment elementAt vrOnAt byForm longAt badLength tooDeep undefinedBy definedBy valueBy item_at itemBy ends_at closedBy form_of one_of num16 num32 tag_at vrAt between if◌then◌else◌
+unfolding content_of content signed fragment_bytes tags_in barred element_of data_set size_answer unless_refused elements_at elements_by fragments_by by_header by_one by_item by_fragment element_at vr_on_at by_form long_at bad_length too_deep undefined_by defined_by value_by item_at item_by ends_at closed_by form_of one_of num16 num32 tag_at vr_at between if◌then◌else◌
 contents-hold = record { of5 = refl; of6 = refl; of9two = refl; of9one = refl; differ = λ e. true≢false (cc) }

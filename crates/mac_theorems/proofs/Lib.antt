@@ -1,4 +1,4 @@
-pub mod laws
+pub mod Laws
 pub mod Removed17
 pub mod Demand3
 pub mod Theorems

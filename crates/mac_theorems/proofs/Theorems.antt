@@ -10,34 +10,34 @@ use lib.ListN.{length, replicate, length-replicate}
 use borrow.Author.Tests.{eq-eqb}
 use Rattle.answer.specs.declared.Answer.{Answer}
 use Rattle.answer.specs.Answer.{accepted}
-use Rattle.mac.specs.Result.{isAccepted}
-use Rattle.mac.specs.ListMode as listMode
-use Rattle.mac.specs.SignatureMode as signatureMode
-use Rattle.mac_theorems.specs.Calls.{EitherCall, inListMode, inSignatureMode, setOf, roomOf, result_of}
+use Rattle.mac.specs.Result.{is_accepted}
+use Rattle.mac.specs.ListMode as list_mode
+use Rattle.mac.specs.SignatureMode as signature_mode
+use Rattle.mac_theorems.specs.Calls.{EitherCall, in_list_mode, in_signature_mode, set_of, room_of, result_of}
 use Rattle.mac_theorems.specs.Removed17.{Without17}
 use Rattle.mac_theorems.specs.Theorems.{Numbers, Positions, AcceptedOutput, RefusedOutput, VerdictExact, MeasuresAsStream, EnoughRoom, Theorems}
-use Rattle.mac_theorems.proofs.laws.answers.EveryAnswer.{Regular, answer-regular}
-use Rattle.mac_theorems.proofs.laws.answers.Acceptance.{answer-accepted, answer-fits}
-use Rattle.mac_theorems.proofs.laws.answers.SignatureAcceptance as signed
-use Rattle.mac_theorems.proofs.laws.answers.Outputs.{output-stream, output-rest, output-room, output-refused}
-use Rattle.mac_theorems.proofs.laws.answers.Verdicts.{says}
-use Rattle.mac_theorems.proofs.laws.signature.SignatureStream.{signature-stream}
-use Rattle.mac_theorems.proofs.laws.answers.CheckAnswers.{checks-as-stream, list-measured, signature-measured}
-use Rattle.mac_theorems.proofs.laws.length.SignatureStreamLength.{never-longer}
+use Rattle.mac_theorems.proofs.Laws.Answers.EveryAnswer.{Regular, answer-regular}
+use Rattle.mac_theorems.proofs.Laws.Answers.Acceptance.{answer-accepted, answer-fits}
+use Rattle.mac_theorems.proofs.Laws.Answers.SignatureAcceptance as signed
+use Rattle.mac_theorems.proofs.Laws.Answers.Outputs.{output-stream, output-rest, output-room, output-refused}
+use Rattle.mac_theorems.proofs.Laws.Answers.Verdicts.{says}
+use Rattle.mac_theorems.proofs.Laws.Signature.SignatureStream.{signature-stream}
+use Rattle.mac_theorems.proofs.Laws.Answers.CheckAnswers.{checks-as-stream, list-measured, signature-measured}
+use Rattle.mac_theorems.proofs.Laws.Length.SignatureStreamLength.{never-longer}
 use Rattle.mac_theorems.proofs.Removed17.{answers-same}
 
 -- ---- a call in either mode
 call-regular : (c : EitherCall) → Regular c (result_of c).answer
-call-regular (inListMode c) = answer-regular c
-call-regular (inSignatureMode c) = signed.answer-regular c
+call-regular (in_list_mode c) = answer-regular c
+call-regular (in_signature_mode c) = signed.answer-regular c
 
-call-accepted : (c : EitherCall) → isAccepted (result_of c) ≡ true → (result_of c).answer ≡ accepted (length (result_of c).stream)
-call-accepted (inListMode c) h = answer-accepted c h
-call-accepted (inSignatureMode c) h = signed.answer-accepted c h
+call-accepted : (c : EitherCall) → is_accepted (result_of c) ≡ true → (result_of c).answer ≡ accepted (length (result_of c).stream)
+call-accepted (in_list_mode c) h = answer-accepted c h
+call-accepted (in_signature_mode c) h = signed.answer-accepted c h
 
-call_fits : (c : EitherCall) → isAccepted (result_of c) ≡ true → length (result_of c).stream ≤ roomOf c
-call_fits (inListMode c) h = answer-fits c h
-call_fits (inSignatureMode c) h = signed.answer-fits c h
+call_fits : (c : EitherCall) → is_accepted (result_of c) ≡ true → length (result_of c).stream ≤ room_of c
+call_fits (in_list_mode c) h = answer-fits c h
+call_fits (in_signature_mode c) h = signed.answer-fits c h
 
 without-17 : Without17
 without-17 = record { never = λ c z. (call-regular c).possible.never17 (ap (λ (a : Answer). a.number) (answers-same c) ∙ z); same = answers-same }
@@ -60,7 +60,7 @@ room m set = replicate (m.length + length set) 0
 room-long : (m : Answer) (set : List ℕ) → length (room m set) ≡ m.length + length set
 room-long m set = length-replicate (m.length + length set) 0
 
-module _ (c : EitherCall) (m : Answer) (set : List ℕ) (s : setOf c ≡ set) (r : roomOf c ≡ length (room m set)) (n : (result_of c).expected ≡ Opt.none) (e : (result_of c).answer ≡ m) where
+module _ (c : EitherCall) (m : Answer) (set : List ℕ) (s : set_of c ≡ set) (r : room_of c ≡ length (room m set)) (n : (result_of c).expected ≡ Opt.none) (e : (result_of c).answer ≡ m) where
   number_is : m.number ≡ (result_of c).answer.number
   number_is = ap (λ (a : Answer). a.number) (sym e)
 
@@ -77,14 +77,14 @@ measures-as-stream : MeasuresAsStream
 measures-as-stream = record {
   of-list = list-measured;
   of-signature = signature-measured;
-  never-9-in-list = λ list set. let m = listMode.measure list set in
-      measured-9 (inListMode (listMode.streamCall list set (room m set))) m set refl refl refl (list-measured list set (room m set) (measured-fits m set));
-  never-16-in-list = λ list set. let m = listMode.measure list set in
-      measured-16 (inListMode (listMode.streamCall list set (room m set))) m set refl refl refl (list-measured list set (room m set) (measured-fits m set));
-  never-9-in-signature = λ uid which set. let m = signatureMode.measure uid which set in
-      measured-9 (inSignatureMode (signatureMode.streamCall uid which set (room m set))) m set refl refl refl (signature-measured uid which set (room m set) (measured-fits m set));
-  never-16-in-signature = λ uid which set. let m = signatureMode.measure uid which set in
-      measured-16 (inSignatureMode (signatureMode.streamCall uid which set (room m set))) m set refl refl refl (signature-measured uid which set (room m set) (measured-fits m set));
+  never-9-in-list = λ list set. let m = list_mode.measure list set in
+      measured-9 (in_list_mode (list_mode.stream_call list set (room m set))) m set refl refl refl (list-measured list set (room m set) (measured-fits m set));
+  never-16-in-list = λ list set. let m = list_mode.measure list set in
+      measured-16 (in_list_mode (list_mode.stream_call list set (room m set))) m set refl refl refl (list-measured list set (room m set) (measured-fits m set));
+  never-9-in-signature = λ uid which set. let m = signature_mode.measure uid which set in
+      measured-9 (in_signature_mode (signature_mode.stream_call uid which set (room m set))) m set refl refl refl (signature-measured uid which set (room m set) (measured-fits m set));
+  never-16-in-signature = λ uid which set. let m = signature_mode.measure uid which set in
+      measured-16 (in_signature_mode (signature_mode.stream_call uid which set (room m set))) m set refl refl refl (signature-measured uid which set (room m set) (measured-fits m set));
 }
 
 accepted-output : AcceptedOutput

@@ -6,8 +6,8 @@ use Rattle.std.proofs.Math.Option.{Option, some}
 use Rattle.answer.specs.declared.Answer.{Answer}
 use Rattle.answer.specs.Answer.{accepted, refused}
 use Rattle.stream.specs.Content.{SignedElement, SignedElements, SignedItems}
-use Rattle.mac.specs.Result.{outputAfter}
-use Rattle.mac.specs.ListMode.{streamCall, contentOf, answer, result}
+use Rattle.mac.specs.Result.{output_after}
+use Rattle.mac.specs.ListMode.{stream_call, content_of, answer, result}
 
 pub record Example : Type 0 where
   pub list : List ℕ
@@ -24,8 +24,8 @@ untouched room = replicate room 0x55
 abbrev pub given : Example → Answer × List ℕ
 given x =
     let out = untouched x.room in
-    let c = streamCall x.list x.set out in
-    (answer c, outputAfter (result c) out)
+    let c = stream_call x.list x.set out in
+    (answer c, output_after (result c) out)
 
 abbrev pub wanted : Example → Answer × List ℕ
 wanted x = (x.answers, x.stream ++ drop (length x.stream) (untouched x.room))
@@ -59,14 +59,14 @@ modality = 0x08 ∷ 0x00 ∷ 0x60 ∷ 0x00 ∷ []
 abbrev absent : List ℕ
 absent = 0x08 ∷ 0x00 ∷ 0x61 ∷ 0x00 ∷ []
 
-abbrev patientName : List ℕ
-patientName = 0x10 ∷ 0x00 ∷ 0x10 ∷ 0x00 ∷ []
+abbrev patient_name : List ℕ
+patient_name = 0x10 ∷ 0x00 ∷ 0x10 ∷ 0x00 ∷ []
 
-abbrev contentSequence : List ℕ
-contentSequence = 0x40 ∷ 0x00 ∷ 0x30 ∷ 0xA7 ∷ []
+abbrev content_sequence : List ℕ
+content_sequence = 0x40 ∷ 0x00 ∷ 0x30 ∷ 0xA7 ∷ []
 
-abbrev pixelData : List ℕ
-pixelData = 0xE0 ∷ 0x7F ∷ 0x10 ∷ 0x00 ∷ []
+abbrev pixel_data : List ℕ
+pixel_data = 0xE0 ∷ 0x7F ∷ 0x10 ∷ 0x00 ∷ []
 
 -- SQ or OB and the reserved bytes after the tag
 abbrev pub SQreserved : List ℕ
@@ -76,8 +76,8 @@ abbrev pub OBreserved : List ℕ
 OBreserved = 0x4F ∷ 0x42 ∷ 0x00 ∷ 0x00 ∷ []
 
 -- a length below 256, and the undefined length
-abbrev pub fourByteLength : ℕ → List ℕ
-fourByteLength n = n ∷ 0x00 ∷ 0x00 ∷ 0x00 ∷ []
+abbrev pub four_byte_length : ℕ → List ℕ
+four_byte_length n = n ∷ 0x00 ∷ 0x00 ∷ 0x00 ∷ []
 
 abbrev undefined : List ℕ
 undefined = 0xFF ∷ 0xFF ∷ 0xFF ∷ 0xFF ∷ []
@@ -86,68 +86,68 @@ undefined = 0xFF ∷ 0xFF ∷ 0xFF ∷ 0xFF ∷ []
 abbrev pub item : List ℕ
 item = 0xFE ∷ 0xFF ∷ 0x00 ∷ 0xE0 ∷ []
 
-abbrev itemDelimiterBytes : List ℕ
-itemDelimiterBytes = 0xFE ∷ 0xFF ∷ 0x0D ∷ 0xE0 ∷ []
+abbrev item_delimiter_bytes : List ℕ
+item_delimiter_bytes = 0xFE ∷ 0xFF ∷ 0x0D ∷ 0xE0 ∷ []
 
-abbrev pub sequenceDelimiterBytes : List ℕ
-sequenceDelimiterBytes = 0xFE ∷ 0xFF ∷ 0xDD ∷ 0xE0 ∷ []
+abbrev pub sequence_delimiter_bytes : List ℕ
+sequence_delimiter_bytes = 0xFE ∷ 0xFF ∷ 0xDD ∷ 0xE0 ∷ []
 
 -- ---- the data sets and streams of the examples 15.5 to 15.9
 
 -- 15.5: "40 00 30 A7 53 51 00 00 12 00 00 00, then FE FF 00 E0 0A 00 00 00, then S (30 bytes in all)"
 abbrev defined : List ℕ
-defined = contentSequence ++ SQreserved ++ fourByteLength 0x12 ++ item ++ fourByteLength 0x0A ++ S
+defined = content_sequence ++ SQreserved ++ four_byte_length 0x12 ++ item ++ four_byte_length 0x0A ++ S
 
 -- 15.6: "The same with both lengths undefined and both delimiters there (46 bytes)"
 abbrev delimited : List ℕ
 delimited =
-    contentSequence ++ SQreserved ++ undefined ++ item ++ undefined ++ S
-    ++ itemDelimiterBytes ++ fourByteLength 0 ++ sequenceDelimiterBytes ++ fourByteLength 0
+    content_sequence ++ SQreserved ++ undefined ++ item ++ undefined ++ S
+    ++ item_delimiter_bytes ++ four_byte_length 0 ++ sequence_delimiter_bytes ++ four_byte_length 0
 
 -- 15.5: "40 00 30 A7 53 51 00 00, FE FF 00 E0, S, FE FF DD E0 (26 bytes in all)"
-abbrev sequenceStream : List ℕ
-sequenceStream = contentSequence ++ SQreserved ++ item ++ S ++ sequenceDelimiterBytes
+abbrev sequence_stream : List ℕ
+sequence_stream = content_sequence ++ SQreserved ++ item ++ S ++ sequence_delimiter_bytes
 
 -- 15.7: "The same sequence without an item"
 abbrev no_item : List ℕ
-no_item = contentSequence ++ SQreserved ++ fourByteLength 0
+no_item = content_sequence ++ SQreserved ++ four_byte_length 0
 
 -- and this with undefined length
-abbrev noItemDelimited : List ℕ
-noItemDelimited = contentSequence ++ SQreserved ++ undefined ++ sequenceDelimiterBytes ++ fourByteLength 0
+abbrev no_item_delimited : List ℕ
+no_item_delimited = content_sequence ++ SQreserved ++ undefined ++ sequence_delimiter_bytes ++ four_byte_length 0
 
-abbrev noItemStream : List ℕ
-noItemStream = contentSequence ++ SQreserved ++ sequenceDelimiterBytes
+abbrev no_item_stream : List ℕ
+no_item_stream = content_sequence ++ SQreserved ++ sequence_delimiter_bytes
 
 -- 15.9: "E0 7F 10 00 4F 42 00 00 FF FF FF FF, once with the fragments AA BB and CC DD,
 -- once with the single fragment AA BB FE FF 00 E0 CC DD"
 abbrev fragmented : (fragments : List ℕ) → List ℕ
-fragmented fragments = pixelData ++ OBreserved ++ undefined ++ fragments ++ sequenceDelimiterBytes ++ fourByteLength 0
+fragmented fragments = pixel_data ++ OBreserved ++ undefined ++ fragments ++ sequence_delimiter_bytes ++ four_byte_length 0
 
-abbrev twoFragments : List ℕ
-twoFragments = fragmented (item ++ fourByteLength 2 ++ 0xAA ∷ 0xBB ∷ item ++ fourByteLength 2 ++ 0xCC ∷ 0xDD ∷ [])
+abbrev two_fragments : List ℕ
+two_fragments = fragmented (item ++ four_byte_length 2 ++ 0xAA ∷ 0xBB ∷ item ++ four_byte_length 2 ++ 0xCC ∷ 0xDD ∷ [])
 
-abbrev oneFragment : List ℕ
-oneFragment = fragmented (item ++ fourByteLength 8 ++ 0xAA ∷ 0xBB ∷ 0xFE ∷ 0xFF ∷ 0x00 ∷ 0xE0 ∷ 0xCC ∷ 0xDD ∷ [])
+abbrev one_fragment : List ℕ
+one_fragment = fragmented (item ++ four_byte_length 8 ++ 0xAA ∷ 0xBB ∷ 0xFE ∷ 0xFF ∷ 0x00 ∷ 0xE0 ∷ 0xCC ∷ 0xDD ∷ [])
 
-abbrev fragmentsStream : List ℕ
-fragmentsStream = pixelData ++ OBreserved ++ item ++ 0xAA ∷ 0xBB ∷ item ++ 0xCC ∷ 0xDD ∷ sequenceDelimiterBytes
+abbrev fragments_stream : List ℕ
+fragments_stream = pixel_data ++ OBreserved ++ item ++ 0xAA ∷ 0xBB ∷ item ++ 0xCC ∷ 0xDD ∷ sequence_delimiter_bytes
 
 -- ---- the examples, by their numbers; the room of 32 bytes is more than enough
 unfoldable pub examples : List Example
 examples =
     accepts modality (A ++ B) 32 10 A  -- 15.1
     ∷ refuses absent (A ++ B) 32 13 0  -- 15.2
-    ∷ refuses patientName (B ++ A) 32 4 10  -- 15.3
-    ∷ refuses patientName B3 32 7 0  -- 15.4
-    ∷ accepts contentSequence defined 32 26 sequenceStream  -- 15.5
-    ∷ accepts contentSequence delimited 32 26 sequenceStream  -- 15.6
-    ∷ accepts contentSequence no_item 32 12 noItemStream  -- 15.7
-    ∷ accepts contentSequence noItemDelimited 32 12 noItemStream  -- 15.7, with undefined length
-    ∷ accepts contentSequence defined 26 26 sequenceStream  -- 15.8
-    ∷ refuses contentSequence defined 25 16 0  -- 15.8
-    ∷ accepts pixelData twoFragments 32 24 fragmentsStream  -- 15.9
-    ∷ accepts pixelData oneFragment 32 24 fragmentsStream  -- 15.9
+    ∷ refuses patient_name (B ++ A) 32 4 10  -- 15.3
+    ∷ refuses patient_name B3 32 7 0  -- 15.4
+    ∷ accepts content_sequence defined 32 26 sequence_stream  -- 15.5
+    ∷ accepts content_sequence delimited 32 26 sequence_stream  -- 15.6
+    ∷ accepts content_sequence no_item 32 12 no_item_stream  -- 15.7
+    ∷ accepts content_sequence no_item_delimited 32 12 no_item_stream  -- 15.7, with undefined length
+    ∷ accepts content_sequence defined 26 26 sequence_stream  -- 15.8
+    ∷ refuses content_sequence defined 25 16 0  -- 15.8
+    ∷ accepts pixel_data two_fragments 32 24 fragments_stream  -- 15.9
+    ∷ accepts pixel_data one_fragment 32 24 fragments_stream  -- 15.9
     ∷ refuses modality [] 32 13 0  -- 15.10
     ∷ refuses [] [] 32 10 0  -- 15.10
     ∷ []
@@ -157,8 +157,8 @@ ExamplesHold = map given examples ≡ map wanted examples
 
 -- ---- signed contents
 
-abbrev contentIn : (list set : List ℕ) → Option SignedElements
-contentIn list set = contentOf (streamCall list set [])
+abbrev content_in : (list set : List ℕ) → Option SignedElements
+content_in list set = content_of (stream_call list set [])
 
 -- a content of one element
 abbrev one : SignedElement → SignedElements
@@ -169,25 +169,25 @@ abbrev SH : ℕ
 SH = 0x5348
 
 -- (0040,A730) with one item, in which (0008,0100) SH has the value 41 31
-abbrev sequenceContent : SignedElements
-sequenceContent =
+abbrev sequence_content : SignedElements
+sequence_content =
     one (SignedElement.sequence 0x0040A730 (SignedItems.item (one (SignedElement.value 0x00080100 SH (0x41 ∷ 0x31 ∷ []))) SignedItems.last))
 
 -- (7FE0,0010) with these fragments
-abbrev fragmentsContent : (fragments : List (List ℕ)) → SignedElements
-fragmentsContent fragments = one (SignedElement.fragments 0x7FE00010 fragments)
+abbrev fragments_content : (fragments : List (List ℕ)) → SignedElements
+fragments_content fragments = one (SignedElement.fragments 0x7FE00010 fragments)
 
-abbrev twoFragmentsContent : SignedElements
-twoFragmentsContent = fragmentsContent ((0xAA ∷ 0xBB ∷ []) ∷ (0xCC ∷ 0xDD ∷ []) ∷ [])
+abbrev two_fragments_content : SignedElements
+two_fragments_content = fragments_content ((0xAA ∷ 0xBB ∷ []) ∷ (0xCC ∷ 0xDD ∷ []) ∷ [])
 
-abbrev oneFragmentContent : SignedElements
-oneFragmentContent = fragmentsContent ((0xAA ∷ 0xBB ∷ 0xFE ∷ 0xFF ∷ 0x00 ∷ 0xE0 ∷ 0xCC ∷ 0xDD ∷ []) ∷ [])
+abbrev one_fragment_content : SignedElements
+one_fragment_content = fragments_content ((0xAA ∷ 0xBB ∷ 0xFE ∷ 0xFF ∷ 0x00 ∷ 0xE0 ∷ 0xCC ∷ 0xDD ∷ []) ∷ [])
 
 -- The data sets of 15.5 and 15.6 have one signed content; those of 15.9, which have one stream, have two. "This is the reason why fragments
 -- are excepted in the first half of demand 3." (15.9)
 pub record ContentsHold : Type 0 where
-  pub of5 : contentIn contentSequence defined ≡ some sequenceContent
-  pub of6 : contentIn contentSequence delimited ≡ some sequenceContent
-  pub of9two : contentIn pixelData twoFragments ≡ some twoFragmentsContent
-  pub of9one : contentIn pixelData oneFragment ≡ some oneFragmentContent
-  pub differ : contentIn pixelData twoFragments ≢ contentIn pixelData oneFragment
+  pub of5 : content_in content_sequence defined ≡ some sequence_content
+  pub of6 : content_in content_sequence delimited ≡ some sequence_content
+  pub of9two : content_in pixel_data two_fragments ≡ some two_fragments_content
+  pub of9one : content_in pixel_data one_fragment ≡ some one_fragment_content
+  pub differ : content_in pixel_data two_fragments ≢ content_in pixel_data one_fragment

@@ -6,27 +6,27 @@ use Rattle.std.proofs.Math.Option.{some}
 use Rattle.std.proofs.Math.Option as Opt
 use Rattle.answer.specs.declared.Answer.{Answer}
 use Rattle.slices.specs.If.{if◌then◌else◌}
-use Rattle.answer.specs.Answer.{accepted, refused, ◌orElse◌}
+use Rattle.answer.specs.Answer.{accepted, refused, ◌or_else◌}
 use Rattle.dataset.specs.Tree.{Elements}
-use Rattle.digest.specs.Message.{digestOf}
+use Rattle.digest.specs.Message.{digest_of}
 use Rattle.digest.specs.Sha256.{sha256}
-use Rattle.stream.specs.TagList.{tagsIn, listAnswer}
-use Rattle.stream.specs.Stream.{elementsStream}
-use Rattle.mac.specs.Result.{Result, isAccepted, outputAfter, neither, same, differs, verdictOf}
-use Rattle.mac.specs.ListMode as listMode
+use Rattle.stream.specs.TagList.{tags_in, list_answer}
+use Rattle.stream.specs.Stream.{elements_stream}
+use Rattle.mac.specs.Result.{Result, is_accepted, output_after, neither, same, differs, verdict_of}
+use Rattle.mac.specs.ListMode as list_mode
 use Rattle.selection.specs.Selection.{Algorithm, selected}
 use Rattle.stream.specs.Own.{own}
-use Rattle.mac.specs.SignatureMode as signatureMode
+use Rattle.mac.specs.SignatureMode as signature_mode
 use Rattle.selection.specs.declared.select.Signature.{Signature}
-use Rattle.mac_theorems.specs.Calls.{EitherCall, inListMode, inSignatureMode, setOf, list_of, roomOf, result_of}
+use Rattle.mac_theorems.specs.Calls.{EitherCall, in_list_mode, in_signature_mode, set_of, list_of, room_of, result_of}
 use Rattle.mac_theorems.specs.Removed17.{Without17}
 
 -- ---- every answer
 
 -- the highest number of either mode
 abbrev pub highest : EitherCall → ℕ
-highest (inListMode c) = 16
-highest (inSignatureMode c) = 23
+highest (in_list_mode c) = 16
+highest (in_signature_mode c) = 23
 
 -- no number is above the highest; 9 comes in a check only
 pub record Numbers : Type 0 where
@@ -43,33 +43,33 @@ pub record Positioned (size count : ℕ) (a : Answer) : Type 0 where
   pub above15 : 15 < a.number → a.position ≡ 0
 
 abbrev pub Positions : Type 0
-Positions = (c : EitherCall) → Positioned (length (setOf c)) (length (tagsIn (list_of c))) (result_of c).answer
+Positions = (c : EitherCall) → Positioned (length (set_of c)) (length (tags_in (list_of c))) (result_of c).answer
 
 -- 9.1: "With number 0 the position is 0." 7.3: "An accepted call puts the stream at the start of the output and changes no later byte; the
 -- answer's length is the stream's." The output keeps its length.
 pub record StreamIn (c : Result) (out : List ℕ) : Type 0 where
   pub answers : c.answer ≡ accepted (length c.stream)
-  pub first : take c.answer.length (outputAfter c out) ≡ c.stream
-  pub later : drop c.answer.length (outputAfter c out) ≡ drop c.answer.length out
-  pub room : length (outputAfter c out) ≡ length out
+  pub first : take c.answer.length (output_after c out) ≡ c.stream
+  pub later : drop c.answer.length (output_after c out) ≡ drop c.answer.length out
+  pub room : length (output_after c out) ≡ length out
 
 abbrev pub AcceptedOutput : Type 0
-AcceptedOutput = (c : EitherCall) (out : List ℕ) → isAccepted (result_of c) ≡ true → roomOf c ≡ length out → StreamIn (result_of c) out
+AcceptedOutput = (c : EitherCall) (out : List ℕ) → is_accepted (result_of c) ≡ true → room_of c ≡ length out → StreamIn (result_of c) out
 
 -- 7.3: "A refused call changes no byte of the output and has length 0."
 pub record NothingIn (c : Result) (out : List ℕ) : Type 0 where
   pub nothing : c.answer.length ≡ 0
-  pub untouched : outputAfter c out ≡ out
+  pub untouched : output_after c out ≡ out
 
 abbrev pub RefusedOutput : Type 0
-RefusedOutput = (c : EitherCall) (out : List ℕ) → isAccepted (result_of c) ≡ false → NothingIn (result_of c) out
+RefusedOutput = (c : EitherCall) (out : List ℕ) → is_accepted (result_of c) ≡ false → NothingIn (result_of c) out
 
 -- A check with the expected digest e says "same" exactly when it is accepted and the digest of its stream equals e, "differs" exactly when
 -- it is accepted and the digest is another, and neither exactly when it is refused.
 pub record Says (c : Result) (e : List ℕ) : Type 0 where
-  pub says_same : (verdictOf c ≡ same) ↔ ((isAccepted c ≡ true) × (digestOf sha256 c.stream ≡ e))
-  pub says-differs : (verdictOf c ≡ differs) ↔ ((isAccepted c ≡ true) × (digestOf sha256 c.stream ≢ e))
-  pub says-neither : (verdictOf c ≡ neither) ↔ (isAccepted c ≡ false)
+  pub says_same : (verdict_of c ≡ same) ↔ ((is_accepted c ≡ true) × (digest_of sha256 c.stream ≡ e))
+  pub says-differs : (verdict_of c ≡ differs) ↔ ((is_accepted c ≡ true) × (digest_of sha256 c.stream ≢ e))
+  pub says-neither : (verdict_of c ≡ neither) ↔ (is_accepted c ≡ false)
 
 abbrev pub VerdictExact : Type 0
 VerdictExact = (c : EitherCall) (e : List ℕ) → (result_of c).expected ≡ some e → Says (result_of c) e
@@ -77,53 +77,53 @@ VerdictExact = (c : EitherCall) (e : List ℕ) → (result_of c).expected ≡ so
 -- a check with an expected digest of 32 bytes answers as the call for the stream does
 pub record ChecksAsStream : Type 0 where
   pub of-list : (list set expected work : List ℕ) → length expected ≡ 32
-      → listMode.answer (listMode.checkCall list set expected work) ≡ listMode.answer (listMode.streamCall list set work)
+      → list_mode.answer (list_mode.check_call list set expected work) ≡ list_mode.answer (list_mode.stream_call list set work)
   pub of-signature : (uid : List ℕ) (which : Signature) (set expected work : List ℕ) → length expected ≡ 32
-      → signatureMode.answer (signatureMode.checkCall uid which set expected work)
-      ≡ signatureMode.answer (signatureMode.streamCall uid which set work)
+      → signature_mode.answer (signature_mode.check_call uid which set expected work)
+      ≡ signature_mode.answer (signature_mode.stream_call uid which set work)
 
 -- 7.9: a measuring call "has the answer that the call for the stream has with room enough", which is the length that is measured (0 for a
 -- refusal); "9 and 16 cannot come"
 pub record MeasuresAsStream : Type 0 where
-  pub of-list : (list set out : List ℕ) → (listMode.measure list set).length ≤ length out
-      → listMode.answer (listMode.streamCall list set out) ≡ listMode.measure list set
-  pub of-signature : (uid : List ℕ) (which : Signature) (set out : List ℕ) → (signatureMode.measure uid which set).length ≤ length out
-      → signatureMode.answer (signatureMode.streamCall uid which set out) ≡ signatureMode.measure uid which set
-  pub never-9-in-list : (list set : List ℕ) → (listMode.measure list set).number ≢ 9
-  pub never-16-in-list : (list set : List ℕ) → (listMode.measure list set).number ≢ 16
-  pub never-9-in-signature : (uid : List ℕ) (which : Signature) (set : List ℕ) → (signatureMode.measure uid which set).number ≢ 9
-  pub never-16-in-signature : (uid : List ℕ) (which : Signature) (set : List ℕ) → (signatureMode.measure uid which set).number ≢ 16
+  pub of-list : (list set out : List ℕ) → (list_mode.measure list set).length ≤ length out
+      → list_mode.answer (list_mode.stream_call list set out) ≡ list_mode.measure list set
+  pub of-signature : (uid : List ℕ) (which : Signature) (set out : List ℕ) → (signature_mode.measure uid which set).length ≤ length out
+      → signature_mode.answer (signature_mode.stream_call uid which set out) ≡ signature_mode.measure uid which set
+  pub never-9-in-list : (list set : List ℕ) → (list_mode.measure list set).number ≢ 9
+  pub never-16-in-list : (list set : List ℕ) → (list_mode.measure list set).number ≢ 16
+  pub never-9-in-signature : (uid : List ℕ) (which : Signature) (set : List ℕ) → (signature_mode.measure uid which set).number ≢ 9
+  pub never-16-in-signature : (uid : List ℕ) (which : Signature) (set : List ℕ) → (signature_mode.measure uid which set).number ≢ 16
 
 -- ---- the length of the stream
 
 -- 5.6: "No stream has more bytes than its data set.": wherever a list is there and not refused, so in every accepted call (where nothing is
 -- selected the list is empty, so 10)
 abbrev pub NeverLonger : Type 0
-NeverLonger = (c : EitherCall) → (listAnswer (list_of c)).number ≡ 0 → length (result_of c).stream ≤ length (setOf c)
+NeverLonger = (c : EitherCall) → (list_answer (list_of c)).number ≡ 0 → length (result_of c).stream ≤ length (set_of c)
 
 -- so an output as long as the data set is always enough
 abbrev pub EnoughRoom : Type 0
-EnoughRoom = (c : EitherCall) → length (setOf c) ≤ roomOf c → (result_of c).answer.number ≢ 16
+EnoughRoom = (c : EitherCall) → length (set_of c) ≤ room_of c → (result_of c).answer.number ≢ 16
 
 -- ---- signature mode and list mode
 
 -- list mode with the list that a call in signature mode selects
-abbrev pub asList : signatureMode.Call → (list : List ℕ) → listMode.Call
-asList c list = record { list = list; set = c.set; room = c.room; expected = c.expected }
+abbrev pub as_list : signature_mode.Call → (list : List ℕ) → list_mode.Call
+as_list c list = record { list = list; set = c.set; room = c.room; expected = c.expected }
 
 -- The stream is list mode's for the list that is selected, and after it the signature item's own elements. 9.5: "10; 11; 12; then for each
 -- tag in turn 13, 14, 15; then 9, 16", as in list mode: where list mode refuses, signature mode gives the same answer; else only 16 can
 -- come, for the whole stream.
-pub record ListsFirst (c : signatureMode.Call) (list : List ℕ) (item : Elements) : Type 0 where
-  pub streams : signatureMode.stream c ≡ listMode.stream (asList c list) ++ elementsStream (own item) c.set
-  pub answers : signatureMode.answer c
-      ≡ (listMode.answer (asList c list)
-      or_else (if ltb c.room (length (signatureMode.stream c)) then refused 16 0 else accepted (length (signatureMode.stream c))))
+pub record ListsFirst (c : signature_mode.Call) (list : List ℕ) (item : Elements) : Type 0 where
+  pub streams : signature_mode.stream c ≡ list_mode.stream (as_list c list) ++ elements_stream (own item) c.set
+  pub answers : signature_mode.answer c
+      ≡ (list_mode.answer (as_list c list)
+      or_else (if ltb c.room (length (signature_mode.stream c)) then refused 16 0 else accepted (length (signature_mode.stream c))))
 
 abbrev pub SignatureStream : Type 0
 SignatureStream =
-    (c : signatureMode.Call) (list : List ℕ) (algorithm : Algorithm) (es item : Elements)
-    → signatureMode.selection c ≡ selected list algorithm es item → ListsFirst c list item
+    (c : signature_mode.Call) (list : List ℕ) (algorithm : Algorithm) (es item : Elements)
+    → signature_mode.selection c ≡ selected list algorithm es item → ListsFirst c list item
 
 -- all of them
 pub record Theorems : Type 0 where

@@ -5,11 +5,11 @@ use Rattle.std.specs.Prelude.{ℕ, ◌+◌, ◌-◌, Bool, true, false, not, ◌
 use Rattle.std.proofs.Math.Option.{Option, some}
 use Rattle.std.proofs.Math.Option as Opt
 use Rattle.slices.specs.If.{if◌then◌else◌}
-use Rattle.slices.specs.Lists.{between, sameBytes, allAre}
-use Rattle.dataset.specs.Tags.{macIdNumber, macCalculationTransferSyntaxUid, macAlgorithm, dataElementsSigned, macParametersSequence, digitalSignaturesSequence}
+use Rattle.slices.specs.Lists.{between, same_bytes, all_are}
+use Rattle.dataset.specs.Tags.{mac_id_number, mac_calculation_transfer_syntax_uid, mac_algorithm, data_elements_signed, mac_parameters_sequence, digital_signatures_sequence}
 use Rattle.dataset.specs.Vr.{AT, CS, UI, US}
 use Rattle.dataset.specs.Tree.{Element, Elements, Items}
-use Rattle.dataset.specs.Lookup.{elementOf}
+use Rattle.dataset.specs.Lookup.{element_of}
 use Rattle.selection.specs.declared.select.Signature.{Signature}
 use Rattle.selection.specs.declared.select.Signature.TheVariants as signature
 
@@ -30,91 +30,91 @@ value_of vr (some (Element.sequence at tag span items)) d = Opt.none
 value_of vr (some (Element.fragments at tag span parts)) d = Opt.none
 
 -- the first item that passes a test of its index (that of the first item here is `index`) and of its elements
-unfoldable pub firstItem : (test : ℕ → Elements → Bool) (index : ℕ) → Items → Option Elements
-firstItem test index Items.last = Opt.none
-firstItem test index (Items.item at elements rest) = if test index elements then some elements else firstItem test (index + 1) rest
+unfoldable pub first_item : (test : ℕ → Elements → Bool) (index : ℕ) → Items → Option Elements
+first_item test index Items.last = Opt.none
+first_item test index (Items.item at elements rest) = if test index elements then some elements else first_item test (index + 1) rest
 
 -- the same of an element's items, counted from 0; none where there are no items
-abbrev pub itemWhere : (test : ℕ → Elements → Bool) → Option Items → Option Elements
-itemWhere test Opt.none = Opt.none
-itemWhere test (some items) = firstItem test 0 items
+abbrev pub item_where : (test : ℕ → Elements → Bool) → Option Items → Option Elements
+item_where test Opt.none = Opt.none
+item_where test (some items) = first_item test 0 items
 
 -- ---- the signature item (a term of RULES 8.2: an item of the Digital Signatures Sequence)
 
 -- 8.2: "the item with the signature's number in the top level's (FFFA,FFFA)"; 8.1: "signatures are counted from 0."
-abbrev pub itemNumbered : (number : ℕ) → Elements → Option Elements
-itemNumbered number es = itemWhere (λ index item. eqb index number) (items_of (elementOf digitalSignaturesSequence es))
+abbrev pub item_numbered : (number : ℕ) → Elements → Option Elements
+item_numbered number es = item_where (λ index item. eqb index number) (items_of (element_of digital_signatures_sequence es))
 
 -- by the caller's choice. 8.1: "Where no number is given, 0 is taken." 18: "there is no (FFFA,FFFA) with VR SQ, or it has no item with the
 -- signature's number" (9.3)
-unfoldable pub signatureItem : Signature → Elements → Option Elements
-signatureItem signature.Unnamed es = itemNumbered 0 es
-signatureItem (signature.Number number) es = itemNumbered number es
+unfoldable pub signature_item : Signature → Elements → Option Elements
+signature_item signature.Unnamed es = item_numbered 0 es
+signature_item (signature.Number number) es = item_numbered number es
 
 -- ---- the parameters item (a term of RULES 8.2: an item of the MAC Parameters Sequence)
 
 -- "length 2" (19, 20)
-abbrev pub twoBytes : Option (List ℕ) → Option (List ℕ)
-twoBytes Opt.none = Opt.none
-twoBytes (some value) = if eqb (length value) 2 then some value else Opt.none
+abbrev pub two_bytes : Option (List ℕ) → Option (List ℕ)
+two_bytes Opt.none = Opt.none
+two_bytes (some value) = if eqb (length value) 2 then some value else Opt.none
 
 -- an item's MAC ID Number. 19: "the signature item has no (0400,0005) with VR US and length 2" (9.3); an item of (4FFE,0001) has its number
 -- "with VR US and length 2" too (20)
-unfoldable pub macIdOf : Elements → List ℕ → Option (List ℕ)
-macIdOf item d = twoBytes (value_of US (elementOf macIdNumber item) d)
+unfoldable pub mac_id_of : Elements → List ℕ → Option (List ℕ)
+mac_id_of item d = two_bytes (value_of US (element_of mac_id_number item) d)
 
 -- the item's number is id; an item that has none is passed over
-abbrev pub isId : (id : List ℕ) → Option (List ℕ) → Bool
-isId id Opt.none = false
-isId id (some other) = sameBytes other id
+abbrev pub is_id : (id : List ℕ) → Option (List ℕ) → Bool
+is_id id Opt.none = false
+is_id id (some other) = same_bytes other id
 
 -- 8.2: "the first in (4FFE,0001) whose MAC ID Number, (0400,0005), equals the signature item's". 20: "there is no (4FFE,0001) with VR SQ,
 -- or none of its items has the signature item's MAC ID Number in a (0400,0005) with VR US and length 2" (9.3)
-unfoldable pub parametersItem : (id : List ℕ) → Elements → List ℕ → Option Elements
-parametersItem id es d = itemWhere (λ index item. isId id (macIdOf item d)) (items_of (elementOf macParametersSequence es))
+unfoldable pub parameters_item : (id : List ℕ) → Elements → List ℕ → Option Elements
+parameters_item id es d = item_where (λ index item. is_id id (mac_id_of item d)) (items_of (element_of mac_parameters_sequence es))
 
 -- ---- the transfer syntax, 21
 
 -- "1.2.840.10008.1.2" and "1.2.840.10008.1.2.2" in ISO 646: Implicit VR Little Endian and Explicit VR Big Endian
-abbrev pub implicitVrLittleEndian : List ℕ
-implicitVrLittleEndian =
+abbrev pub implicit_vr_little_endian : List ℕ
+implicit_vr_little_endian =
     0x31 ∷ 0x2E ∷ 0x32 ∷ 0x2E ∷ 0x38 ∷ 0x34 ∷ 0x30 ∷ 0x2E ∷ 0x31 ∷ 0x30 ∷ 0x30 ∷ 0x30 ∷ 0x38 ∷ 0x2E ∷ 0x31 ∷ 0x2E ∷ 0x32 ∷ []
 
-abbrev pub explicitVrBigEndian : List ℕ
-explicitVrBigEndian = implicitVrLittleEndian ++ 0x2E ∷ 0x32 ∷ []
+abbrev pub explicit_vr_big_endian : List ℕ
+explicit_vr_big_endian = implicit_vr_little_endian ++ 0x2E ∷ 0x32 ∷ []
 
 -- 21: "less one NUL where it ends in one" (the default 1 is not NUL: an empty value ends in none)
-unfoldable pub lessNul : List ℕ → List ℕ
-lessNul value = if eqb (get_or value (length value - 1) 1) 0 then take (length value - 1) value else value
+unfoldable pub less_nul : List ℕ → List ℕ
+less_nul value = if eqb (get_or value (length value - 1) 1) 0 then take (length value - 1) value else value
 
 -- 21: "(0400,0010) is absent, is not UI or is empty; or its value, less one NUL where it ends in one, is not the caller's UID as it was
 -- given, or is 1.2.840.10008.1.2 or 1.2.840.10008.1.2.2" (9.3)
-unfoldable pub badTransferSyntax : (uid : List ℕ) → Option (List ℕ) → Bool
-badTransferSyntax uid Opt.none = true
-badTransferSyntax uid (some value) =
+unfoldable pub bad_transfer_syntax : (uid : List ℕ) → Option (List ℕ) → Bool
+bad_transfer_syntax uid Opt.none = true
+bad_transfer_syntax uid (some value) =
     eqb (length value) 0
-    || (not (sameBytes (lessNul value) uid)
-    || (sameBytes (lessNul value) implicitVrLittleEndian
-    || sameBytes (lessNul value) explicitVrBigEndian))
+    || (not (same_bytes (less_nul value) uid)
+    || (same_bytes (less_nul value) implicit_vr_little_endian
+    || same_bytes (less_nul value) explicit_vr_big_endian))
 
 -- ---- the algorithm, 22
 
 -- the algorithms that a signature may name (22)
 pub data Algorithm : Type 0 where
-  ofSHA256 : Algorithm
+  of_sha256 : Algorithm
 
 -- "SHA256"
 abbrev pub SHA256 : List ℕ
 SHA256 = 0x53 ∷ 0x48 ∷ 0x41 ∷ 0x32 ∷ 0x35 ∷ 0x36 ∷ []
 
 -- a Defined Term, "spaces at its end aside" (22): its bytes, and after them spaces alone (leading spaces are not ignored)
-unfoldable pub isTerm : (term value : List ℕ) → Bool
-isTerm term value = sameBytes (take (length term) value) term && allAre 0x20 (drop (length term) value)
+unfoldable pub is_term : (term value : List ℕ) → Bool
+is_term term value = same_bytes (take (length term) value) term && all_are 0x20 (drop (length term) value)
 
 -- the algorithm of a value, or none. 22: "(0400,0015) is absent, is not CS, or is not SHA256, spaces at its end aside" (9.3)
-unfoldable pub algorithmOf : Option (List ℕ) → Option Algorithm
-algorithmOf Opt.none = Opt.none
-algorithmOf (some value) = if isTerm SHA256 value then some Algorithm.ofSHA256 else Opt.none
+unfoldable pub algorithm_of : Option (List ℕ) → Option Algorithm
+algorithm_of Opt.none = Opt.none
+algorithm_of (some value) = if is_term SHA256 value then some Algorithm.of_sha256 else Opt.none
 
 -- ---- the selection, 18 to 23
 
@@ -131,22 +131,22 @@ need number (some a) on = on a
 
 -- 8.3: "The numbers 21 to 23 are about this same item." 23: "(0400,0020) is absent or is not AT" (9.3). `item` is the signature item, of a
 -- data set whose elements are es.
-unfoldable pub parametersSelect : (uid d : List ℕ) (es item parameters : Elements) → Selection
-parametersSelect uid d es item parameters =
-    if badTransferSyntax uid (value_of UI (elementOf macCalculationTransferSyntaxUid parameters) d) then refusal 21 else
-    need 22 (algorithmOf (value_of CS (elementOf macAlgorithm parameters) d)) λ algorithm.
-    need 23 (value_of AT (elementOf dataElementsSigned parameters) d) λ list.
+unfoldable pub parameters_select : (uid d : List ℕ) (es item parameters : Elements) → Selection
+parameters_select uid d es item parameters =
+    if bad_transfer_syntax uid (value_of UI (element_of mac_calculation_transfer_syntax_uid parameters) d) then refusal 21 else
+    need 22 (algorithm_of (value_of CS (element_of mac_algorithm parameters) d)) λ algorithm.
+    need 23 (value_of AT (element_of data_elements_signed parameters) d) λ list.
     selected list algorithm es item
 
 -- "18 to 23" (9.5), in a data set whose elements are es, of a whole data set whose elements are `whole`. In every call the two are the same data
 -- set (`select`), and nothing here reads `whole`.
-unfoldable pub selectIn : (uid : List ℕ) → Signature → (whole : Elements) (d : List ℕ) (es : Elements) → Selection
-selectIn uid which whole d es =
-    need 18 (signatureItem which es) λ item.
-    need 19 (macIdOf item d) λ id.
-    need 20 (parametersItem id es d) λ parameters.
-    parametersSelect uid d es item parameters
+unfoldable pub select_in : (uid : List ℕ) → Signature → (whole : Elements) (d : List ℕ) (es : Elements) → Selection
+select_in uid which whole d es =
+    need 18 (signature_item which es) λ item.
+    need 19 (mac_id_of item d) λ id.
+    need 20 (parameters_item id es d) λ parameters.
+    parameters_select uid d es item parameters
 
 -- what a call selects, in the whole data set. 8.2: "in the top level's (FFFA,FFFA)"
 abbrev pub select : (uid : List ℕ) → Signature → (whole : Elements) (d : List ℕ) → Selection
-select uid which whole d = selectIn uid which whole d whole
+select uid which whole d = select_in uid which whole d whole

@@ -3,7 +3,7 @@ ghost use Rattle.std.specs.Prelude.{◌≡◌};
 ghost use Rattle.std.proofs.Math.Option.{some};
 ghost use Rattle.dataset.specs.Place.{Lies};
 ghost use Rattle.dataset.specs.Inner.Place.{PlaceLies};
-ghost use Rattle.selection.specs.Selection.{badTransferSyntax, SHA256, isTerm};
+ghost use Rattle.selection.specs.Selection.{bad_transfer_syntax, SHA256, is_term};
 ghost use Rattle.selection.specs.Inner.Selection.{LessNul, BadSyntax, AlgorithmOf, ParametersSelected};
 
 use crate::select;
@@ -35,7 +35,7 @@ fn less_nul(value: &[u8]) -> usize
 
 // 21: whether a value is empty, not the caller's UID, or a forbidden one.
 fn bad_uid(uid: &[u8], value: &[u8]) -> bool
-    ensures { result ≡ badTransferSyntax uid.now (some value.now) }
+    ensures { result ≡ bad_transfer_syntax uid.now (some value.now) }
 {
     if value.len() == 0 {
         return true;
@@ -66,7 +66,7 @@ fn bad_syntax(uid: &[u8], d: &[u8], p: Place) -> bool
 
 // Whether a value is SHA256, spaces at its end aside.
 fn is_sha256(value: &[u8]) -> bool
-    ensures { result ≡ isTerm SHA256 value.now }
+    ensures { result ≡ is_term SHA256 value.now }
 {
     if value.len() < 6 {
         return false;

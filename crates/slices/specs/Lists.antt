@@ -20,13 +20,13 @@ abbrev pub OfBytes : List ℕ → Type 0
 OfBytes d = (i : ℕ) → get_or d i 0 < 256
 
 -- two lists of bytes are the same
-unfoldable pub sameBytes : List ℕ → List ℕ → Bool
-sameBytes [] [] = true
-sameBytes [] (y ∷ ys) = false
-sameBytes (x ∷ xs) [] = false
-sameBytes (x ∷ xs) (y ∷ ys) = eqb x y && sameBytes xs ys
+unfoldable pub same_bytes : List ℕ → List ℕ → Bool
+same_bytes [] [] = true
+same_bytes [] (y ∷ ys) = false
+same_bytes (x ∷ xs) [] = false
+same_bytes (x ∷ xs) (y ∷ ys) = eqb x y && same_bytes xs ys
 
 -- every byte of a list is this one
-unfoldable pub allAre : (byte : ℕ) → List ℕ → Bool
-allAre byte [] = true
-allAre byte (x ∷ xs) = eqb x byte && allAre byte xs
+unfoldable pub all_are : (byte : ℕ) → List ℕ → Bool
+all_are byte [] = true
+all_are byte (x ∷ xs) = eqb x byte && all_are byte xs

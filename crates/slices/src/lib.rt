@@ -1,7 +1,7 @@
 // What every crate does with bytes: copy, compare, test.
 ghost use Rattle.std.specs.Prelude.{◌≡◌, ◌<◌, ◌≤◌};
 ghost use Rattle.std.proofs.lemmas.List.Edits.{sets};
-ghost use Rattle.slices.specs.Lists.{sameBytes, allAre};
+ghost use Rattle.slices.specs.Lists.{same_bytes, all_are};
 
 // The lesser of two numbers.
 fn lesser(a: usize, b: usize) -> usize
@@ -31,7 +31,7 @@ pub fn copy(bytes: &[u8], out: &mut [u8], to: usize)
 
 // Whether two lists of bytes are the same.
 pub fn same(a: &[u8], b: &[u8]) -> bool
-    ensures { result ≡ sameBytes a.now b.now }
+    ensures { result ≡ same_bytes a.now b.now }
 {
     if a.len() != b.len() {
         return false;
@@ -48,7 +48,7 @@ pub fn same(a: &[u8], b: &[u8]) -> bool
 
 // Whether every byte is this one.
 pub fn all_are(bytes: &[u8], byte: u8) -> bool
-    ensures { result ≡ allAre byte bytes.now }
+    ensures { result ≡ all_are byte bytes.now }
 {
     let mut i = 0;
     while i < bytes.len() {

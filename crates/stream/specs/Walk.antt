@@ -4,61 +4,61 @@
 use Rattle.std.specs.Prelude.{ℕ, ◌+◌, ◌≤◌, ◌≡◌, List, ◌++◌, eqb, ltb, length, drop}
 use Rattle.slices.specs.If.{if◌then◌else◌}
 use Rattle.answer.specs.declared.Answer.{Answer}
-use Rattle.answer.specs.Answer.{accepted, refused, ◌orElse◌}
+use Rattle.answer.specs.Answer.{accepted, refused, ◌or_else◌}
 use Rattle.dataset.specs.Tree.{Elements}
 use Rattle.dataset.specs.Reading.{Reading, read, answer_of, tree_of}
-use Rattle.dataset.specs.Extent.{elementsIn}
+use Rattle.dataset.specs.Extent.{elements_in}
 use Rattle.dataset.specs.declared.extent.Extent.{Extent}
-use Rattle.stream.specs.TagList.{tagsIn, listAnswer}
-use Rattle.stream.specs.Stream.{elementsStream, listedStream}
-use Rattle.stream.specs.Listed.{tagsAnswer}
+use Rattle.stream.specs.TagList.{tags_in, list_answer}
+use Rattle.stream.specs.Stream.{elements_stream, listed_stream}
+use Rattle.stream.specs.Listed.{tags_answer}
 use Rattle.stream.specs.Own.{own}
 use Rattle.stream.specs.declared.walk.SignatureItem.{SignatureItem}
-use Rattle.stream.specs.declared.walk.SignatureItem.TheVariants as signatureItem
+use Rattle.stream.specs.declared.walk.SignatureItem.TheVariants as signature_item
 
 -- the reading of the signature item; where there is none it has no elements. 1.5: "List mode takes in no fields of a signature."
-abbrev pub itemReading : List ℕ → SignatureItem → Reading Elements
-itemReading d signatureItem.Absent = read Elements.none 0
-itemReading d (signatureItem.Item x) = elementsIn d x
+abbrev pub item_reading : List ℕ → SignatureItem → Reading Elements
+item_reading d signature_item.Absent = read Elements.none 0
+item_reading d (signature_item.Item x) = elements_in d x
 
 -- 8.4: "After the listed elements the stream goes on with the signature item's own elements, by section 5."
-unfoldable pub signedStream : (tags : List ℕ) (es item : Elements) (d : List ℕ) → List ℕ
-signedStream tags es item d = listedStream tags es d ++ elementsStream (own item) d
+unfoldable pub signed_stream : (tags : List ℕ) (es item : Elements) (d : List ℕ) → List ℕ
+signed_stream tags es item d = listed_stream tags es d ++ elements_stream (own item) d
 
 -- the stream of a list in the data set in x, and of the signature item
-unfoldable pub streamIn : (list d : List ℕ) → Extent → SignatureItem → List ℕ
-streamIn list d x item = signedStream (tagsIn list) (tree_of (elementsIn d x)) (tree_of (itemReading d item)) d
+unfoldable pub stream_in : (list d : List ℕ) → Extent → SignatureItem → List ℕ
+stream_in list d x item = signed_stream (tags_in list) (tree_of (elements_in d x)) (tree_of (item_reading d item)) d
 
 -- by the readings of the data set and of the signature item: "2 to 8; then for each tag in turn 13, 14, 15" (9.4), and the item's fault
-unfoldable pub readAnswer : (tags : List ℕ) (set item : Reading Elements) → Answer
-readAnswer tags set item = answer_of set or_else tagsAnswer 0 tags (tree_of set) or_else answer_of item
+unfoldable pub read_answer : (tags : List ℕ) (set item : Reading Elements) → Answer
+read_answer tags set item = answer_of set or_else tags_answer 0 tags (tree_of set) or_else answer_of item
 
 -- "10; 11 over the whole list; 12 over the whole list; 2 to 8; then for each tag in turn 13, 14, 15" (9.4). In signature mode (9.5) both data
 -- sets were read before 18 to 23, so that neither's fault comes here (docs/DECISIONS.md, L17).
-unfoldable pub answerTo15 : (list d : List ℕ) → Extent → SignatureItem → Answer
-answerTo15 list d x item = listAnswer list or_else readAnswer (tagsIn list) (elementsIn d x) (itemReading d item)
+unfoldable pub answer_to15 : (list d : List ℕ) → Extent → SignatureItem → Answer
+answer_to15 list d x item = list_answer list or_else read_answer (tags_in list) (elements_in d x) (item_reading d item)
 
 -- what measuring answers: that, or else the stream's length (7.9)
 unfoldable pub measure : (list d : List ℕ) → Extent → SignatureItem → Answer
-measure list d x item = answerTo15 list d x item or_else accepted (length (streamIn list d x item))
+measure list d x item = answer_to15 list d x item or_else accepted (length (stream_in list d x item))
 
 -- 16: "the output room is less than the stream's length" (9.3). 7.3: "the answer's length is the stream's."
-unfoldable pub answerFrom16 : (stream : List ℕ) (room : ℕ) → Answer
-answerFrom16 stream room = (if ltb room (length stream) then refused 16 0 else accepted 0) or_else accepted (length stream)
+unfoldable pub answer_from16 : (stream : List ℕ) (room : ℕ) → Answer
+answer_from16 stream room = (if ltb room (length stream) then refused 16 0 else accepted 0) or_else accepted (length stream)
 
 -- what writing answers, in the output room `room`; `later` is what the caller refuses behind 15 and before 16: number 9, or none
 unfoldable pub answer : (list d : List ℕ) → Extent → SignatureItem → (later : Answer) (room : ℕ) → Answer
-answer list d x item later room = answerTo15 list d x item or_else later or_else answerFrom16 (streamIn list d x item) room
+answer list d x item later room = answer_to15 list d x item or_else later or_else answer_from16 (stream_in list d x item) room
 
 -- what a call with the answer a leaves in the output or work buffer `out`. 7.3: "An accepted call puts the stream at the start of the output
 -- and changes no later byte; .. A refused call changes no byte of the output". 7.4, of a check: "7.3 holds of its work buffer in place of an
 -- output."
-unfoldable pub leftIn : (a : Answer) (stream out : List ℕ) → List ℕ
-leftIn a stream out = if eqb a.number 0 then stream ++ drop (length stream) out else out
+unfoldable pub left_in : (a : Answer) (stream out : List ℕ) → List ℕ
+left_in a stream out = if eqb a.number 0 then stream ++ drop (length stream) out else out
 
 -- ---- what `write` promises: its answer r, and what it leaves. List and item may lie anywhere, so that the bound is twice the data; that no
 -- stream is longer than its data set (5.6) is said of the modes.
 pub record WrittenAs (list d : List ℕ) (x : Extent) (item : SignatureItem) (later : Answer) (out : List ℕ) (r : Answer) (after : List ℕ) : Type 0 where
   pub answers : r ≡ answer list d x item later (length out)
-  pub output : after ≡ leftIn r (streamIn list d x item) out
+  pub output : after ≡ left_in r (stream_in list d x item) out
   pub short : r.number ≡ 0 → r.length ≤ length d + length d

@@ -1,7 +1,7 @@
 // Which elements are written.
 ghost use Rattle.std.specs.Prelude.{◌≡◌};
-ghost use Rattle.dataset.specs.Header.{elementCase};
-ghost use Rattle.stream.specs.Inner.Keep.{keeps, keepsHeader};
+ghost use Rattle.dataset.specs.Header.{element_case};
+ghost use Rattle.stream.specs.Inner.Keep.{keeps, keeps_header};
 
 use crate::tag_list;
 use dataset::header::ElementHeader;
@@ -27,7 +27,7 @@ fn is_kept(keep: Keep, tag: u32) -> bool
 
 // Whether the element with this header is kept.
 pub(crate) fn keeps_header(keep: Keep, h: ElementHeader) -> bool
-    ensures { result ≡ keepsHeader keep (elementCase h) }
+    ensures { result ≡ keeps_header keep (element_case h) }
 {
     match h {
         ElementHeader::Refused {

@@ -1,9 +1,9 @@
 // The merge of a tag list with the elements of a data set: 13, 14, 15, and the stream of the listed elements.
 ghost use Rattle.std.specs.Prelude.{◌≡◌, ◌*◌, ◌/◌, ◌≤◌, length, drop};
 ghost use Rattle.answer.specs.Answer as Spec;
-ghost use Rattle.stream.specs.TagList.{tagsIn, ascendingAnswer};
+ghost use Rattle.stream.specs.TagList.{tags_in, ascending_answer};
 ghost use Rattle.dataset.specs.Place.{Lies};
-ghost use Rattle.stream.specs.Inner.Listed.{ListWalk, nextListed, wantedBehind, stoppedOf, mergedOf, ended_of};
+ghost use Rattle.stream.specs.Inner.Listed.{ListWalk, next_listed, wanted_behind, stopped_of, merged_of, ended_of};
 
 use crate::keep::Keep;
 use crate::writer::OneWritten;
@@ -21,7 +21,7 @@ pub(crate) struct Listed {
 
 // The element that is wanted next.
 fn next_listed(list: &[u8], index: usize) -> Keep
-    ensures { result ≡ nextListed (tagsIn (drop (4 * index) list.now)) }
+    ensures { result ≡ next_listed (tags_in (drop (4 * index) list.now)) }
 {
     if list.len() / 4 <= index {
         return Keep::Nothing;
@@ -32,7 +32,7 @@ fn next_listed(list: &[u8], index: usize) -> Keep
 // The element that is wanted next, behind one of this tag: still the same where that stood before it. The list is read only where it is
 // another.
 fn wanted_behind(list: &[u8], keep: Keep, tag: u32, index: usize) -> Keep
-    ensures { result ≡ wantedBehind keep tag (tagsIn (drop (4 * index) list.now)) }
+    ensures { result ≡ wanted_behind keep tag (tags_in (drop (4 * index) list.now)) }
 {
     let Keep::Only(wanted) = keep else {
         return next_listed(list, index);
@@ -45,7 +45,7 @@ fn wanted_behind(list: &[u8], keep: Keep, tag: u32, index: usize) -> Keep
 
 // A refusal: no tag is wanted any more.
 fn stopped(count: usize, number: u8, index: usize) -> Listed
-    ensures { result ≡ stoppedOf count number index }
+    ensures { result ≡ stopped_of count number index }
 {
     let answer = Answer::refused(number, index);
     Listed {
@@ -66,7 +66,7 @@ fn merged(
     to: usize,
 ) -> Listed
     requires { before.index ≤ length list.now / 4 }
-    ensures { result ≡ mergedOf (length list.now / 4) keep before tag is_un holds_un to }
+    ensures { result ≡ merged_of (length list.now / 4) keep before tag is_un holds_un to }
 {
     let count = list.len() / 4;
     let index = before.index;
@@ -94,7 +94,7 @@ fn merged(
 
 // What is found at the end of the data set.
 fn ended(list: &[u8], before: Listed) -> Answer
-    ensures { result ≡ ended_of (tagsIn (drop (4 * before.index) list.now)) before }
+    ensures { result ≡ ended_of (tags_in (drop (4 * before.index) list.now)) before }
 {
     let index = before.index;
     if list.len() / 4 <= index {
@@ -106,7 +106,7 @@ fn ended(list: &[u8], before: Listed) -> Answer
 // One walk over the list and the elements of a data set: the data set's first fault, wherever it stands; or the first of 13, 14, 15;
 // or the stream, which is written, and its length.
 pub(crate) fn walk_list(list: &[u8], d: &[u8], x: Extent, out: &mut [u8]) -> Answer
-    requires { (ascendingAnswer 0 0 (tagsIn list.now) ≡ Spec.accepted 0) × Lies d.now x }
+    requires { (ascending_answer 0 0 (tags_in list.now) ≡ Spec.accepted 0) × Lies d.now x }
     ensures { ListWalk list.now d.now x result out.old out.new }
 {
     let mut at = x.from;

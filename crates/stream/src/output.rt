@@ -2,7 +2,7 @@
 ghost use Rattle.std.specs.Prelude.{◌≡◌, [], ◌∷◌, ◌≤◌, length};
 ghost use Rattle.std.proofs.lemmas.List.Edits.{sets};
 ghost use Rattle.slices.specs.Lists.{between};
-ghost use Rattle.stream.specs.Stream.{itemTagBytes, sequenceDelimiterBytes};
+ghost use Rattle.stream.specs.Stream.{item_tag_bytes, sequence_delimiter_bytes};
 
 // Copies the bytes of d from `from` up to `end` to the output, from `to` on.
 pub(crate) fn copy(d: &[u8], from: usize, end: usize, out: &mut [u8], to: usize)
@@ -22,14 +22,14 @@ fn put_tag(out: &mut [u8], to: usize, third: u8)
 
 // Puts an item's tag.
 pub(crate) fn put_item_tag(out: &mut [u8], to: usize)
-    ensures { out.new ≡ sets out.old to itemTagBytes }
+    ensures { out.new ≡ sets out.old to item_tag_bytes }
 {
     put_tag(out, to, 0x00);
 }
 
 // Puts the tag of a sequence delimiter.
 pub(crate) fn put_sequence_delimiter(out: &mut [u8], to: usize)
-    ensures { out.new ≡ sets out.old to sequenceDelimiterBytes }
+    ensures { out.new ≡ sets out.old to sequence_delimiter_bytes }
 {
     put_tag(out, to, 0xDD);
 }

@@ -3,7 +3,7 @@ ghost use Rattle.std.specs.Prelude.{◌≡◌, ◌||◌, ◌+◌, ◌≤◌, len
 ghost use Rattle.stream.specs.TagList.{barred};
 ghost use Rattle.stream.specs.Own.{named};
 ghost use Rattle.dataset.specs.Place.{Lies};
-ghost use Rattle.stream.specs.Inner.Own.{OwnWalk, ownKeep};
+ghost use Rattle.stream.specs.Inner.Own.{OwnWalk, own_keep};
 
 use crate::keep::Keep;
 use crate::writer::{OneWritten, Written};
@@ -29,7 +29,7 @@ fn is_left_out(tag: u32, is_un: bool, holds_un: bool) -> bool
 
 // What the writing walk keeps of the element that the first walk saw.
 fn own_keep(seen: OneWritten) -> Keep
-    ensures { result ≡ ownKeep seen }
+    ensures { result ≡ own_keep seen }
 {
     match seen {
         OneWritten::Refused(_) => Keep::Nothing,

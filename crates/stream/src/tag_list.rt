@@ -1,7 +1,7 @@
 // The tag list: its size, its order, and the barred tags.
 ghost use Rattle.std.specs.Prelude.{◌≡◌, ◌+◌, ◌*◌, ◌<◌, ◌≤◌, length};
 ghost use Rattle.dataset.specs.Bytes.{tag_at};
-ghost use Rattle.stream.specs.TagList.{barred, tagsIn, badSize, ascendingAnswer, unbarredAnswer, listAnswer};
+ghost use Rattle.stream.specs.TagList.{barred, tags_in, bad_size, ascending_answer, unbarred_answer, list_answer};
 
 use answer::Answer;
 use dataset::bytes::TagIn;
@@ -34,14 +34,14 @@ pub(crate) fn is_barred(tag: u32) -> bool
 
 // Whether a list of so many bytes is refused.
 fn bad_size(bytes: usize) -> bool
-    ensures { result ≡ badSize bytes }
+    ensures { result ≡ bad_size bytes }
 {
     (bytes == 0) | ((4 * 1024 < bytes) | (0 < bytes % 4))
 }
 
 // The first tag that is not above the one before it.
 fn order_answer(list: &[u8]) -> Answer
-    ensures { result ≡ ascendingAnswer 0 0 (tagsIn list.now) }
+    ensures { result ≡ ascending_answer 0 0 (tags_in list.now) }
 {
     let count = list.len() / 4;
     let mut index = 0;
@@ -59,7 +59,7 @@ fn order_answer(list: &[u8]) -> Answer
 
 // The first barred tag.
 fn barred_answer(list: &[u8]) -> Answer
-    ensures { result ≡ unbarredAnswer 0 (tagsIn list.now) }
+    ensures { result ≡ unbarred_answer 0 (tags_in list.now) }
 {
     let count = list.len() / 4;
     let mut index = 0;
@@ -74,7 +74,7 @@ fn barred_answer(list: &[u8]) -> Answer
 
 // The first fault of a tag list: 10; 11 over the whole list; 12 over the whole list.
 pub(crate) fn list_answer(list: &[u8]) -> Answer
-    ensures { result ≡ listAnswer list.now }
+    ensures { result ≡ list_answer list.now }
 {
     if bad_size(list.len()) {
         return Answer::refused(10, 0);

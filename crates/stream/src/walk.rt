@@ -3,7 +3,7 @@
 ghost use Rattle.std.specs.Prelude.{◌≡◌, ◌≤◌, length};
 ghost use Rattle.answer.specs.Answer as Spec;
 ghost use Rattle.dataset.specs.Place.{Lies};
-ghost use Rattle.stream.specs.TagList.{tagsIn, ascendingAnswer};
+ghost use Rattle.stream.specs.TagList.{tags_in, ascending_answer};
 ghost use Rattle.stream.specs.Walk as spec;
 ghost use Rattle.stream.specs.Walk.{WrittenAs};
 ghost use Rattle.stream.specs.Inner.Walk.{FollowingWalk, StreamWalk};
@@ -42,7 +42,7 @@ fn write_following(d: &[u8], x: Extent, out: &mut [u8], to: usize) -> Answer
 
 // Writes the listed elements of the data set in x, and what follows them.
 fn write_stream(list: &[u8], d: &[u8], x: Extent, item: SignatureItem, out: &mut [u8]) -> Answer
-    requires { (ascendingAnswer 0 0 (tagsIn list.now) ≡ Spec.accepted 0) × Lies d.now x }
+    requires { (ascending_answer 0 0 (tags_in list.now) ≡ Spec.accepted 0) × Lies d.now x }
     ensures { StreamWalk list.now d.now x item result out.old out.new }
 {
     let SignatureItem::Item(inside) = item else {

@@ -3,10 +3,10 @@
 ghost use Rattle.std.specs.Prelude.{◌≡◌, false, ◌++◌, ◌+◌, ◌<◌, ◌≤◌, eqb, length};
 ghost use Rattle.std.proofs.lemmas.List.Edits.{sets};
 ghost use Rattle.slices.specs.Lists.{between};
-ghost use Rattle.dataset.specs.Header.{elementCase};
+ghost use Rattle.dataset.specs.Header.{element_case};
 ghost use Rattle.dataset.specs.Vr.{UN};
-ghost use Rattle.stream.specs.Stream.{itemTagBytes};
-ghost use Rattle.stream.specs.Inner.Writer.{nestedWritten, withOffset, HeaderAt, FragmentsWalk, ElementWalk, OneWalk, ElementsWalk, ItemsWalk};
+ghost use Rattle.stream.specs.Stream.{item_tag_bytes};
+ghost use Rattle.stream.specs.Inner.Writer.{nested_written, with_offset, HeaderAt, FragmentsWalk, ElementWalk, OneWalk, ElementsWalk, ItemsWalk};
 ghost use Rattle.stream.specs.declared.writer.OneWritten.TheVariants as one;
 
 use crate::keep::Keep;
@@ -60,7 +60,7 @@ fn value_written(tag: u32, vr: u16, next: usize, to: usize) -> OneWritten
 
 // An element that holds items or fragments, by what the walk over these answers.
 fn nested_written(tag: u32, inside: Written) -> OneWritten
-    ensures { result ≡ nestedWritten tag inside }
+    ensures { result ≡ nested_written tag inside }
 {
     match inside {
         Written::Refused(fault) => OneWritten::Refused(fault),
@@ -76,7 +76,7 @@ fn nested_written(tag: u32, inside: Written) -> OneWritten
 
 // An element that is not kept: the offset in the stream stays.
 fn with_offset(one: OneWritten, to: usize) -> OneWritten
-    ensures { result ≡ withOffset one to }
+    ensures { result ≡ with_offset one to }
 {
     match one {
         OneWritten::Refused(fault) => OneWritten::Refused(fault),
@@ -100,7 +100,7 @@ fn with_offset(one: OneWritten, to: usize) -> OneWritten
 // Writes an item tag and the bytes of a fragment.
 fn write_fragment(d: &[u8], start: usize, end: usize, out: &mut [u8], to: usize)
     requires { (to + 4 ≤ start + length d.now) × (start ≤ end) × (end ≤ length d.now) }
-    ensures { out.new ≡ sets out.old to (itemTagBytes ++ between d.now start end) }
+    ensures { out.new ≡ sets out.old to (item_tag_bytes ++ between d.now start end) }
 {
     output::put_item_tag(out, to);
     output::copy(d, start, end, out, to + 4);
@@ -158,8 +158,8 @@ fn write_element(
     out: &mut [u8],
     to: usize,
 ) -> OneWritten
-    requires { HeaderAt d.now left stop at (elementCase h) × (to ≤ at + length d.now) × (at ≤ stop) × (stop ≤ length d.now) }
-    ensures { ElementWalk d.now left stop at (elementCase h) to result out.old out.new }
+    requires { HeaderAt d.now left stop at (element_case h) × (to ≤ at + length d.now) × (at ≤ stop) × (stop ≤ length d.now) }
+    ensures { ElementWalk d.now left stop at (element_case h) to result out.old out.new }
 {
     match h {
         ElementHeader::Refused { number, position } => OneWritten::Refused(header::fault(

@@ -3,24 +3,24 @@
 use Rattle.std.specs.Prelude.{ℕ, ◌-◌, ◌≤◌, ◌≡◌, List, length, take, drop}
 use Rattle.std.proofs.Math.Option.{Option}
 use Rattle.answer.specs.declared.Answer.{Answer}
-use Rattle.dataset.specs.Reading.{sizeLimit}
+use Rattle.dataset.specs.Reading.{size_limit}
 use Rattle.selection.specs.declared.select.Selected.{Selected}
 use Rattle.selection.specs.declared.select.Selection.{Selection}
 use Rattle.selection.specs.declared.select.Selection.TheVariants as selection
 use Rattle.selection.specs.declared.select.Signature.{Signature}
 use Rattle.stream.specs.Walk as walk
-use Rattle.stream.specs.declared.walk.SignatureItem.TheVariants as signatureItem
-use Rattle.mac.specs.Result.{Result, outputAfter}
-use Rattle.mac.specs.ListMode as listMode
-use Rattle.mac.specs.SignatureMode as signatureMode
-use Rattle.mac.specs.Inner.Verdict.{length_of, lengthAnswer}
+use Rattle.stream.specs.declared.walk.SignatureItem.TheVariants as signature_item
+use Rattle.mac.specs.Result.{Result, output_after}
+use Rattle.mac.specs.ListMode as list_mode
+use Rattle.mac.specs.SignatureMode as signature_mode
+use Rattle.mac.specs.Inner.Verdict.{length_of, length_answer}
 use Rattle.mac.specs.declared.verdict.ExpectedLength.{ExpectedLength}
 
 -- ---- a call, by its expected digest: what is answered, r, and left in the output
 
 pub record Left (c : Result) (out : List ℕ) (r : Answer) (after : List ℕ) : Type 0 where
   pub answers : r ≡ c.answer
-  pub output : after ≡ outputAfter c out
+  pub output : after ≡ output_after c out
 
 -- for each expected digest of the length that is given
 pub record CallAnswered (call : Option (List ℕ) → Result) (given : ExpectedLength) (most : ℕ) (out : List ℕ) (r : Answer) (after : List ℕ) : Type 0 where
@@ -30,25 +30,25 @@ pub record CallAnswered (call : Option (List ℕ) → Result) (given : ExpectedL
   pub short : r.number ≡ 0 → r.length ≤ most
 
 -- list mode
-abbrev pub listCall : (list d out : List ℕ) → Option (List ℕ) → Result
-listCall list d out expected = listMode.result (record { list = list; set = d; room = length out; expected = expected })
+abbrev pub list_call : (list d out : List ℕ) → Option (List ℕ) → Result
+list_call list d out expected = list_mode.result (record { list = list; set = d; room = length out; expected = expected })
 
 -- ---- what is selected: a refusal, f; or what lies where s says
 
 pub record SelectionRefused (uid : List ℕ) (which : Signature) (d : List ℕ) (f : Answer) : Type 0 where
   pub number : f.number ≡ 0 → ⊥
-  pub answers : f ≡ signatureMode.answerTo15 uid which d
+  pub answers : f ≡ signature_mode.answer_to15 uid which d
 
 -- the list of what is selected
-abbrev pub listIn : List ℕ → Selected → List ℕ
-listIn d s = take (s.end - s.start) (drop s.start d)
+abbrev pub list_in : List ℕ → Selected → List ℕ
+list_in d s = take (s.end - s.start) (drop s.start d)
 
 pub record SelectionLies (uid : List ℕ) (which : Signature) (d : List ℕ) (s : Selected) : Type 0 where
   pub order : s.start ≤ s.end
   pub inside : s.end ≤ length d
-  pub small : length d ≤ sizeLimit
-  pub answers : signatureMode.answerTo15 uid which d ≡ walk.answerTo15 (listIn d s) d s.signed (signatureItem.Item s.item)
-  pub stream-is : signatureMode.streamIn uid which d ≡ walk.streamIn (listIn d s) d s.signed (signatureItem.Item s.item)
+  pub small : length d ≤ size_limit
+  pub answers : signature_mode.answer_to15 uid which d ≡ walk.answer_to15 (list_in d s) d s.signed (signature_item.Item s.item)
+  pub stream-is : signature_mode.stream_in uid which d ≡ walk.stream_in (list_in d s) d s.signed (signature_item.Item s.item)
 
 abbrev pub SignatureSelected : (uid : List ℕ) (which : Signature) (d : List ℕ) → Selection → Type 0
 SignatureSelected uid which d (selection.Refused f) = SelectionRefused uid which d f
@@ -57,4 +57,4 @@ SignatureSelected uid which d (selection.Selected s) = SelectionLies uid which d
 -- ---- what is written of it: the stream; 9 by the length of the expected digest
 
 abbrev pub SelectedWritten : (d : List ℕ) (s : Selected) (given : ExpectedLength) (out : List ℕ) (r : Answer) (after : List ℕ) → Type 0
-SelectedWritten d s given out r after = walk.WrittenAs (listIn d s) d s.signed (signatureItem.Item s.item) (lengthAnswer s.algorithm given) out r after
+SelectedWritten d s given out r after = walk.WrittenAs (list_in d s) d s.signed (signature_item.Item s.item) (length_answer s.algorithm given) out r after

@@ -11,38 +11,38 @@ use Rattle.digest.specs.Message as digest
 use Rattle.digest.specs.Sha256.{sha256}
 use Rattle.selection.specs.declared.select.Algorithm.{Algorithm}
 use Rattle.selection.specs.declared.select.Algorithm.TheVariants as algorithm
-use Rattle.mac.specs.Result.{neither, verdictCode, compared}
+use Rattle.mac.specs.Result.{neither, verdict_code, compared}
 use Rattle.mac.specs.declared.verdict.Checked.{Checked}
 use Rattle.mac.specs.declared.verdict.Verdict.TheVariants as verdict
 use Rattle.mac.specs.declared.verdict.ExpectedLength.{ExpectedLength}
-use Rattle.mac.specs.declared.verdict.ExpectedLength.TheVariants as expectedLength
+use Rattle.mac.specs.declared.verdict.ExpectedLength.TheVariants as expected_length
 
 -- ---- the code's cases of an algorithm: the definition of its digest, and how many bytes that has
 
 abbrev pub standard : Algorithm → digest.Algorithm
 standard algorithm.Sha256 = sha256
 
-abbrev pub digestLength : Algorithm → ℕ
-digestLength a = (standard a).size
+abbrev pub digest_length : Algorithm → ℕ
+digest_length a = (standard a).size
 
 -- ---- a check
 
 -- an expected digest as it is handed down
 abbrev pub length_of : Option (List ℕ) → ExpectedLength
-length_of Opt.none = expectedLength.Absent
-length_of (some e) = expectedLength.Length (length e)
+length_of Opt.none = expected_length.Absent
+length_of (some e) = expected_length.Length (length e)
 
 -- 9, by what is handed down; or else number 0
-abbrev pub lengthAnswer : Algorithm → ExpectedLength → Answer
-lengthAnswer a expectedLength.Absent = accepted 0
-lengthAnswer a (expectedLength.Length n) = if not (eqb n (digestLength a)) then refused 9 0 else accepted 0
+abbrev pub length_answer : Algorithm → ExpectedLength → Answer
+length_answer a expected_length.Absent = accepted 0
+length_answer a (expected_length.Length n) = if not (eqb n (digest_length a)) then refused 9 0 else accepted 0
 
 -- one that is refused
-abbrev pub refusedCheck : Answer → Checked
-refusedCheck a = record { answer = a; verdict = verdict.Neither }
+abbrev pub refused_check : Answer → Checked
+refused_check a = record { answer = a; verdict = verdict.Neither }
 
 -- by the algorithm and the answer of its stream
 pub record CheckOf (of : Algorithm) (a : Answer) (expected work : List ℕ) (r : Checked) : Type 0 where
   pub answers : r.answer ≡ a
-  pub refused : (a.number ≡ 0 → ⊥) → verdictCode r.verdict ≡ neither
-  pub says : a.number ≡ 0 → verdictCode r.verdict ≡ compared (some expected) (hashing (standard of) (take a.length work)).digest
+  pub refused : (a.number ≡ 0 → ⊥) → verdict_code r.verdict ≡ neither
+  pub says : a.number ≡ 0 → verdict_code r.verdict ≡ compared (some expected) (hashing (standard of) (take a.length work)).digest

@@ -2,7 +2,7 @@
 -- Assumes nothing.
 use Rattle.std.specs.Prelude.{ℕ, ◌+◌, ◌≤◌, ◌≡◌, List, length}
 use Rattle.std.proofs.lemmas.List.Edits.{sets}
-use Rattle.mac_frame.specs.Frame.{inputLimit}
+use Rattle.mac_frame.specs.Frame.{input_limit}
 
 -- the bytes are written into the text from `at` on, as far as they fit, and r is the place after them
 pub record Wrote (text : List ℕ) (at : ℕ) (bytes : List ℕ) (r : ℕ) (after : List ℕ) : Type 0 where
@@ -13,4 +13,4 @@ pub record Wrote (text : List ℕ) (at : ℕ) (bytes : List ℕ) (r : ℕ) (afte
 pub record Holds (s : List ℕ) (end : ℕ) : Type 0 where
   pub least : 5 ≤ end
   pub inside : end + 4 ≤ length s
-  pub small : length s ≤ inputLimit
+  pub small : length s ≤ input_limit

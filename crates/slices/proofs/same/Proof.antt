@@ -1,5 +1,5 @@
 -- `same` meets its contract: each place by its law in Comparing. Assumes nothing.
-use Rattle.slices.proofs.laws.Comparing as steps
+use Rattle.slices.proofs.Laws.Comparing as steps
 use borrow.Author.Rules.{rules}
 use Prim.Native.Nat.{◌-◌}
 use lib.ListN.{length}

@@ -12,12 +12,12 @@ keeps (keep.Only wanted) tag = eqb tag wanted
 keeps keep.Nothing tag = false
 
 -- by the header of an element; where there is no element nothing is kept
-abbrev pub keepsHeader : Keep → ElementHeader → Bool
-keepsHeader k (ElementHeader.refused number position) = false
-keepsHeader k (ElementHeader.ends next) = false
-keepsHeader k (ElementHeader.value tag vr start end) = keeps k tag
-keepsHeader k (ElementHeader.sequence tag start end delimited) = keeps k tag
-keepsHeader k (ElementHeader.fragments tag start) = keeps k tag
+abbrev pub keeps_header : Keep → ElementHeader → Bool
+keeps_header k (ElementHeader.refused number position) = false
+keeps_header k (ElementHeader.ends next) = false
+keeps_header k (ElementHeader.value tag vr start end) = keeps k tag
+keeps_header k (ElementHeader.sequence tag start end delimited) = keeps k tag
+keeps_header k (ElementHeader.fragments tag start) = keeps k tag
 
 -- each element
 unfoldable pub every : (tag : ℕ) → Bool

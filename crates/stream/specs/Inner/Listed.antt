@@ -4,13 +4,13 @@ use Rattle.std.specs.Prelude.{ℕ, ◌+◌, ◌≤◌, ◌≡◌, Bool, List, []
 use Rattle.std.proofs.lemmas.List.Edits.{sets}
 use Rattle.slices.specs.If.{if◌then◌else◌}
 use Rattle.answer.specs.declared.Answer.{Answer}
-use Rattle.answer.specs.Answer.{accepted, refused, ◌orElse◌}
+use Rattle.answer.specs.Answer.{accepted, refused, ◌or_else◌}
 use Rattle.dataset.specs.Tree.{Elements}
 use Rattle.dataset.specs.Reading.{Reading, fault, read}
-use Rattle.stream.specs.TagList.{tagsIn}
-use Rattle.stream.specs.Stream.{listedStream}
-use Rattle.stream.specs.Listed.{tagsAnswer}
-use Rattle.dataset.specs.Extent.{elementsIn}
+use Rattle.stream.specs.TagList.{tags_in}
+use Rattle.stream.specs.Stream.{listed_stream}
+use Rattle.stream.specs.Listed.{tags_answer}
+use Rattle.dataset.specs.Extent.{elements_in}
 use Rattle.dataset.specs.declared.extent.Extent.{Extent}
 use Rattle.stream.specs.declared.listed.Listed.{Listed}
 use Rattle.stream.specs.declared.keep.Keep.{Keep}
@@ -18,46 +18,46 @@ use Rattle.stream.specs.declared.keep.Keep.TheVariants as keep
 
 -- the answer by the reading of the data set: its fault; or else what was found before, or else the first of 13, 14, 15 for the tags from
 -- `index` on, or else the length of the stream
-unfoldable pub listedAnswer : (found : Answer) (index : ℕ) (tags d : List ℕ) → Reading Elements → Answer
-listedAnswer found index tags d (fault f) = f
-listedAnswer found index tags d (read es next) = found or_else tagsAnswer index tags es or_else accepted (found.length + length (listedStream tags es d))
+unfoldable pub listed_answer : (found : Answer) (index : ℕ) (tags d : List ℕ) → Reading Elements → Answer
+listed_answer found index tags d (fault f) = f
+listed_answer found index tags d (read es next) = found or_else tags_answer index tags es or_else accepted (found.length + length (listed_stream tags es d))
 
 -- the output before and after: where the answer is accepted, the stream of these tags is written after that of the tags before them
 unfoldable pub ListedLeaves : (found : Answer) (index : ℕ) (tags d : List ℕ) → Reading Elements → (before after : List ℕ) → Type 0
 ListedLeaves found index tags d (fault f) before after = Unit {0}
 ListedLeaves found index tags d (read es next) before after =
-    (listedAnswer found index tags d (read es next)).number ≡ 0 → after ≡ sets before found.length (listedStream tags es d)
+    (listed_answer found index tags d (read es next)).number ≡ 0 → after ≡ sets before found.length (listed_stream tags es d)
 
 pub record ListWalk (list d : List ℕ) (x : Extent) (r : Answer) (before after : List ℕ) : Type 0 where
-  pub answers : r ≡ listedAnswer (accepted 0) 0 (tagsIn list) d (elementsIn d x)
-  pub output : ListedLeaves (accepted 0) 0 (tagsIn list) d (elementsIn d x) before after
+  pub answers : r ≡ listed_answer (accepted 0) 0 (tags_in list) d (elements_in d x)
+  pub output : ListedLeaves (accepted 0) 0 (tags_in list) d (elements_in d x) before after
   pub short : r.length ≤ length d
 
 -- the element that is wanted next, by the tags that are left
-unfoldable pub nextListed : (tags : List ℕ) → Keep
-nextListed [] = keep.Nothing
-nextListed (wanted ∷ tags) = keep.Only wanted
+unfoldable pub next_listed : (tags : List ℕ) → Keep
+next_listed [] = keep.Nothing
+next_listed (wanted ∷ tags) = keep.Only wanted
 
 -- the same behind an element of this tag, by the tags that are left then: still the same where that element stood before it
-unfoldable pub wantedBehind : Keep → (tag : ℕ) (tags : List ℕ) → Keep
-wantedBehind keep.Unbarred tag tags = nextListed tags
-wantedBehind (keep.Only wanted) tag tags = if ltb tag wanted then keep.Only wanted else nextListed tags
-wantedBehind keep.Nothing tag tags = nextListed tags
+unfoldable pub wanted_behind : Keep → (tag : ℕ) (tags : List ℕ) → Keep
+wanted_behind keep.Unbarred tag tags = next_listed tags
+wanted_behind (keep.Only wanted) tag tags = if ltb tag wanted then keep.Only wanted else next_listed tags
+wanted_behind keep.Nothing tag tags = next_listed tags
 
 -- a refusal: no tag of the `count` tags is wanted any more
-abbrev pub stoppedOf : (count number index : ℕ) → Listed
-stoppedOf count number index = record { index = count; answer = refused number index }
+abbrev pub stopped_of : (count number index : ℕ) → Listed
+stopped_of count number index = record { index = count; answer = refused number index }
 
 -- what is found after one element more, by which element was wanted
-unfoldable pub mergedOf : (count : ℕ) → Keep → Listed → (tag : ℕ) (isUN holds : Bool) (to : ℕ) → Listed
-mergedOf count keep.Unbarred s tag isUN holds to = s
-mergedOf count (keep.Only wanted) s tag isUN holds to =
+unfoldable pub merged_of : (count : ℕ) → Keep → Listed → (tag : ℕ) (is_un holds : Bool) (to : ℕ) → Listed
+merged_of count keep.Unbarred s tag is_un holds to = s
+merged_of count (keep.Only wanted) s tag is_un holds to =
     if ltb tag wanted then s else
-    if ltb wanted tag then stoppedOf count 13 s.index else
-    if isUN then stoppedOf count 14 s.index else
-    if holds then stoppedOf count 15 s.index else
+    if ltb wanted tag then stopped_of count 13 s.index else
+    if is_un then stopped_of count 14 s.index else
+    if holds then stopped_of count 15 s.index else
     record { index = s.index + 1; answer = accepted to }
-mergedOf count keep.Nothing s tag isUN holds to = s
+merged_of count keep.Nothing s tag is_un holds to = s
 
 -- what is found at the end of the data set
 unfoldable pub ended_of : (tags : List ℕ) → Listed → Answer

@@ -3,28 +3,28 @@
 use Rattle.std.specs.Prelude.{ℕ, ◌+◌, ◌≤◌, ◌≡◌, List, length}
 use Rattle.std.proofs.lemmas.List.Edits.{sets}
 use Rattle.answer.specs.declared.Answer.{Answer}
-use Rattle.answer.specs.Answer.{accepted, ◌orElse◌}
+use Rattle.answer.specs.Answer.{accepted, ◌or_else◌}
 use Rattle.dataset.specs.Tree.{Elements}
 use Rattle.dataset.specs.Reading.{Reading, answer_of, tree_of}
-use Rattle.dataset.specs.Extent.{elementsIn}
+use Rattle.dataset.specs.Extent.{elements_in}
 use Rattle.dataset.specs.declared.extent.Extent.{Extent}
-use Rattle.stream.specs.TagList.{tagsIn}
-use Rattle.stream.specs.Walk.{itemReading, signedStream, streamIn, readAnswer}
-use Rattle.stream.specs.Inner.Own.{ownStream}
+use Rattle.stream.specs.TagList.{tags_in}
+use Rattle.stream.specs.Walk.{item_reading, signed_stream, stream_in, read_answer}
+use Rattle.stream.specs.Inner.Own.{own_stream}
 use Rattle.stream.specs.declared.walk.SignatureItem.{SignatureItem}
 
 -- by the readings of the data set and of the signature item; or else the length of the stream
-unfoldable pub walkAnswer : (tags d : List ℕ) → (p item : Reading Elements) → Answer
-walkAnswer tags d p item = readAnswer tags p item or_else accepted (length (signedStream tags (tree_of p) (tree_of item) d))
+unfoldable pub walk_answer : (tags d : List ℕ) → (p item : Reading Elements) → Answer
+walk_answer tags d p item = read_answer tags p item or_else accepted (length (signed_stream tags (tree_of p) (tree_of item) d))
 
 -- what follows the listed elements, from `to` on: the own elements of the signature item in x
 pub record FollowingWalk (d : List ℕ) (x : Extent) (to : ℕ) (r : Answer) (before after : List ℕ) : Type 0 where
-  pub answers : r ≡ (answer_of (elementsIn d x) or_else accepted (to + length (ownStream (tree_of (elementsIn d x)) d)))
-  pub output : r.number ≡ 0 → after ≡ sets before to (ownStream (tree_of (elementsIn d x)) d)
+  pub answers : r ≡ (answer_of (elements_in d x) or_else accepted (to + length (own_stream (tree_of (elements_in d x)) d)))
+  pub output : r.number ≡ 0 → after ≡ sets before to (own_stream (tree_of (elements_in d x)) d)
   pub short : r.number ≡ 0 → r.length ≤ to + length d
 
 -- all of it
 pub record StreamWalk (list d : List ℕ) (x : Extent) (item : SignatureItem) (r : Answer) (before after : List ℕ) : Type 0 where
-  pub answers : r ≡ walkAnswer (tagsIn list) d (elementsIn d x) (itemReading d item)
-  pub output : r.number ≡ 0 → after ≡ sets before 0 (streamIn list d x item)
+  pub answers : r ≡ walk_answer (tags_in list) d (elements_in d x) (item_reading d item)
+  pub output : r.number ≡ 0 → after ≡ sets before 0 (stream_in list d x item)
   pub short : r.number ≡ 0 → r.length ≤ length d + length d

@@ -5,11 +5,11 @@
 use Rattle.std.specs.Prelude.{ℕ, ◌+◌, ◌≡◌, Bool, false, List, [], length}
 use Rattle.std.proofs.lemmas.List.Edits.{sets}
 use Rattle.slices.specs.If.{if◌then◌else◌}
-use Rattle.dataset.specs.Header.{ElementHeader, elementAt}
+use Rattle.dataset.specs.Header.{ElementHeader, element_at}
 use Rattle.dataset.specs.Tree.{Element, tag_of}
-use Rattle.dataset.specs.Reading.{Reading, fault, read, One, ended, element, explicit, byHeader, elementsAt, itemsAt, fragmentsAt, one_at}
-use Rattle.stream.specs.Stream.{streamOf, elementsStream, itemsStream, fragmentsStream}
-use Rattle.stream.specs.UN.{isUN, holdsUN, elementsHoldUN, itemsHoldUN}
+use Rattle.dataset.specs.Reading.{Reading, fault, read, One, ended, element, explicit, by_header, elements_at, items_at, fragments_at, one_at}
+use Rattle.stream.specs.Stream.{stream_of, elements_stream, items_stream, fragments_stream}
+use Rattle.stream.specs.UN.{is_un, holds_un, elements_hold_un, items_hold_un}
 use Rattle.stream.specs.Inner.Keep.{keeps, every}
 use Rattle.stream.specs.declared.keep.Keep.{Keep}
 use Rattle.stream.specs.declared.writer.Written.{Written}
@@ -26,19 +26,19 @@ walked holds stream (fault f) d to = written.Refused f
 walked holds stream (read a next) d to = written.Past (holds a) next (to + length (stream a d))
 
 -- what holds no UN: fragments, and the signature item's own elements
-unfoldable pub holdsNone : {A : Type 0} → A → Bool
-holdsNone a = false
+unfoldable pub holds_none : {A : Type 0} → A → Bool
+holds_none a = false
 
 -- the stream of what is read in an element's place: that of an element, if it is kept
-unfoldable pub oneStream : (kept : ℕ → Bool) → One → List ℕ → List ℕ
-oneStream kept ended d = []
-oneStream kept (element e) d = if kept (tag_of e) then streamOf e d else []
+unfoldable pub one_stream : (kept : ℕ → Bool) → One → List ℕ → List ℕ
+one_stream kept ended d = []
+one_stream kept (element e) d = if kept (tag_of e) then stream_of e d else []
 
 -- of what is read in an element's place
-unfoldable pub oneWalked : (kept : ℕ → Bool) → Reading One → (d : List ℕ) (to : ℕ) → OneWritten
-oneWalked kept (fault f) d to = one.Refused f
-oneWalked kept (read ended next) d to = one.End next
-oneWalked kept (read (element e) next) d to = one.Element (tag_of e) (isUN e) (holdsUN e) next (to + length (oneStream kept (element e) d))
+unfoldable pub one_walked : (kept : ℕ → Bool) → Reading One → (d : List ℕ) (to : ℕ) → OneWritten
+one_walked kept (fault f) d to = one.Refused f
+one_walked kept (read ended next) d to = one.End next
+one_walked kept (read (element e) next) d to = one.Element (tag_of e) (is_un e) (holds_un e) next (to + length (one_stream kept (element e) d))
 
 -- the output before and after: where the reading is good, its stream is written from `to` on
 unfoldable pub Leaves : {A : Type 0} → (stream : A → List ℕ → List ℕ) → Reading A → (d : List ℕ) (to : ℕ) (before after : List ℕ) → Type 0
@@ -54,43 +54,43 @@ pub record Walk {A R : Type 0} (answer : Reading A → List ℕ → ℕ → R) (
 -- ---- helpers
 
 -- what is read at `at` by the header that stands there
-unfoldable pub byHeaderAt : List ℕ → (left stop at : ℕ) → ElementHeader → Reading One
-byHeaderAt d left stop at h = byHeader (λ inner. itemsAt explicit d inner left) (fragmentsAt explicit d left stop) at h
+unfoldable pub by_header_at : List ℕ → (left stop at : ℕ) → ElementHeader → Reading One
+by_header_at d left stop at h = by_header (λ inner. items_at explicit d inner left) (fragments_at explicit d left stop) at h
 
 -- h stands at `at` in an element's place
 pub record HeaderAt (d : List ℕ) (left stop at : ℕ) (h : ElementHeader) : Type 0 where
   pub delimited : Bool
   pub least : ℕ
-  pub is : h ≡ elementAt d delimited left stop at least
+  pub is : h ≡ element_at d delimited left stop at least
 
 -- an element that holds items or fragments, by what the walk over these answers
-abbrev pub nestedWritten : (tag : ℕ) → Written → OneWritten
-nestedWritten tag (written.Refused f) = one.Refused f
-nestedWritten tag (written.Past holds next to) = one.Element tag false holds next to
+abbrev pub nested_written : (tag : ℕ) → Written → OneWritten
+nested_written tag (written.Refused f) = one.Refused f
+nested_written tag (written.Past holds next to) = one.Element tag false holds next to
 
 -- an element that is not kept: the offset in the stream stays
-abbrev pub withOffset : OneWritten → (to : ℕ) → OneWritten
-withOffset (one.Refused f) to = one.Refused f
-withOffset (one.End next) to = one.End next
-withOffset (one.Element tag isUN holds next past) to = one.Element tag isUN holds next to
+abbrev pub with_offset : OneWritten → (to : ℕ) → OneWritten
+with_offset (one.Refused f) to = one.Refused f
+with_offset (one.End next) to = one.End next
+with_offset (one.Element tag is_un holds next past) to = one.Element tag is_un holds next to
 
 -- ---- the walks
 
 abbrev pub FragmentsWalk : List ℕ → (left stop from to : ℕ) → Written → (before after : List ℕ) → Type 0
 FragmentsWalk d left stop from to r before after =
-    Walk (walked holdsNone fragmentsStream) fragmentsStream (fragmentsAt explicit d left stop from) d to r before after
+    Walk (walked holds_none fragments_stream) fragments_stream (fragments_at explicit d left stop from) d to r before after
 
 abbrev pub ElementWalk : List ℕ → (left stop at : ℕ) → ElementHeader → (to : ℕ) → OneWritten → (before after : List ℕ) → Type 0
-ElementWalk d left stop at h to r before after = Walk (oneWalked every) (oneStream every) (byHeaderAt d left stop at h) d to r before after
+ElementWalk d left stop at h to r before after = Walk (one_walked every) (one_stream every) (by_header_at d left stop at h) d to r before after
 
 abbrev pub OneWalk : Keep → List ℕ → (delimited : Bool) (left stop at least to : ℕ) → OneWritten → (before after : List ℕ) → Type 0
 OneWalk k d delimited left stop at least to r before after =
-    Walk (oneWalked (keeps k)) (oneStream (keeps k)) (one_at explicit d delimited left stop at least) d to r before after
+    Walk (one_walked (keeps k)) (one_stream (keeps k)) (one_at explicit d delimited left stop at least) d to r before after
 
 abbrev pub ElementsWalk : List ℕ → (delimited : Bool) (left stop from to : ℕ) → Written → (before after : List ℕ) → Type 0
 ElementsWalk d delimited left stop from to r before after =
-    Walk (walked elementsHoldUN elementsStream) elementsStream (elementsAt explicit d delimited left stop from 0) d to r before after
+    Walk (walked elements_hold_un elements_stream) elements_stream (elements_at explicit d delimited left stop from 0) d to r before after
 
 abbrev pub ItemsWalk : List ℕ → (delimited : Bool) (left stop from to : ℕ) → Written → (before after : List ℕ) → Type 0
 ItemsWalk d delimited left stop from to r before after =
-    Walk (walked itemsHoldUN itemsStream) itemsStream (itemsAt explicit d delimited left stop from) d to r before after
+    Walk (walked items_hold_un items_stream) items_stream (items_at explicit d delimited left stop from) d to r before after

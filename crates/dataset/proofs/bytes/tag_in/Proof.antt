@@ -9,20 +9,20 @@ use mathlib.Core.Option.{some}
 use mathlib.Core.Option as Opt
 use lib.ListN.{length}
 use Rattle.slices.specs.If.{if◌then◌else◌}
-use Rattle.dataset.specs.Bytes.{tag_at, tagIn}
+use Rattle.dataset.specs.Bytes.{tag_at, tag_in}
 use Rattle.dataset.proofs.bytes.tag_in.Statement.{statement}
 use Rattle.dataset.proofs.bytes.tag_in.Tie as tie
 
-few : (s : List ℕ) (i : ℕ) → length s < 4 → Opt.none ≡ tagIn s i
-unfolding tagIn if◌then◌else◌
+few : (s : List ℕ) (i : ℕ) → length s < 4 → Opt.none ≡ tag_in s i
+unfolding tag_in if◌then◌else◌
 few s i h = rw (lt-leb (i + 4) (length s) (omega arith))
 
-past : (s : List ℕ) (i : ℕ) → 4 ≤ length s → length s - 4 < i → Opt.none ≡ tagIn s i
-unfolding tagIn if◌then◌else◌
+past : (s : List ℕ) (i : ℕ) → 4 ≤ length s → length s - 4 < i → Opt.none ≡ tag_in s i
+unfolding tag_in if◌then◌else◌
 past s i l h = rw (lt-leb (i + 4) (length s) (omega arith))
 
-here : (s : List ℕ) (i tag : ℕ) → 4 ≤ length s → i ≤ length s - 4 → tag ≡ tag_at s i → some tag ≡ tagIn s i
-unfolding tagIn if◌then◌else◌
+here : (s : List ℕ) (i tag : ℕ) → 4 ≤ length s → i ≤ length s - 4 → tag ≡ tag_at s i → some tag ≡ tag_in s i
+unfolding tag_in if◌then◌else◌
 here s i tag l h e = rw (le-leb (i + 4) (length s) (omega arith), e)
 
 returns : tie.Need-returns

@@ -1,5 +1,5 @@
 -- `open_item` meets its contract: each place by its law in OneItem. Assumes nothing.
-use Rattle.dataset.proofs.laws.extent.OneItem as steps
+use Rattle.dataset.proofs.Laws.Extent.OneItem as steps
 use borrow.Author.Rules.{rules}
 use Rattle.dataset.proofs.extent.open_item.Statement.{statement}
 use Rattle.dataset.proofs.extent.open_item.Tie as tie

@@ -1,6 +1,6 @@
 -- `outside_answer` meets its contract. Assumes nothing.
 use borrow.Author.Rules.{rules}
-use Rattle.dataset.proofs.laws.extent.Outside as steps
+use Rattle.dataset.proofs.Laws.Extent.Outside as steps
 use Rattle.dataset.proofs.extent.outside_answer.Statement.{statement}
 use Rattle.dataset.proofs.extent.outside_answer.Tie as tie
 

@@ -7,17 +7,17 @@ use lib.Dec.{eqb}
 use borrow.Author.Rules.{rules}
 use borrow.Author.Tests.{not-true, not-false}
 use Rattle.dataset.specs.Bytes.{tag_at, num32}
-use Rattle.dataset.specs.Header.{closedBy}
+use Rattle.dataset.specs.Header.{closed_by}
 use Rattle.dataset.proofs.header.closed_by.Statement.{statement}
 use Rattle.dataset.proofs.header.closed_by.Tie as tie
 
-closed-not : (d : List ℕ) (delimiter : ℕ) (delimited : Bool) (at : ℕ) → not delimited ≡ true → false ≡ closedBy d delimiter delimited at
-unfolding closedBy
+closed-not : (d : List ℕ) (delimiter : ℕ) (delimited : Bool) (at : ℕ) → not delimited ≡ true → false ≡ closed_by d delimiter delimited at
+unfolding closed_by
 closed-not d delimiter delimited at e = rw (not-true delimited e)
 
 closed-word : (d : List ℕ) (delimiter : ℕ) (delimited : Bool) (at tag word : ℕ) → not delimited ≡ false → tag ≡ tag_at d at → word ≡ num32 d (at + 4)
-    → (eqb tag delimiter && eqb word 0) ≡ closedBy d delimiter delimited at
-unfolding closedBy
+    → (eqb tag delimiter && eqb word 0) ≡ closed_by d delimiter delimited at
+unfolding closed_by
 closed-word d delimiter delimited at tag word e q w = rw (not-false delimited e, ← q, ← w)
 
 returns : tie.Need-returns

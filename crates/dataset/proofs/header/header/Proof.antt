@@ -1,6 +1,6 @@
--- `header` meets its contract: at each `return` the tests that led there say which case of `elementAt` holds. Assumes nothing.
-use Rattle.dataset.proofs.laws.header.Checks as checks
-use Rattle.dataset.specs.Header.{elementAt}
+-- `header` meets its contract: at each `return` the tests that led there say which case of `element_at` holds. Assumes nothing.
+use Rattle.dataset.proofs.Laws.Header.Checks as checks
+use Rattle.dataset.specs.Header.{element_at}
 use borrow.Author.Rules.{rules}
 use Rattle.dataset.proofs.header.header.Statement.{statement}
 use Rattle.dataset.proofs.header.header.Tie as tie
@@ -12,14 +12,14 @@ refused-element-requires : tie.Need-refused-element-requires
 refused-element-requires c κs = search rules
 
 returns : tie.Need-returns
-unfolding elementAt
+unfolding element_at
 returns c = search (checks.checks, checks.results, checks.handed) depth 20
 
 ends-at-requires : tie.Need-ends-at-requires
 ends-at-requires c κs = search rules
 
 returns-2 : tie.Need-returns-2
-unfolding elementAt
+unfolding element_at
 returns-2 c = search (checks.checks, checks.results, checks.handed) depth 20
 
 sub-if3 : tie.Need-overflow-sub-if3
@@ -29,7 +29,7 @@ refused-element-requires-2 : tie.Need-refused-element-requires-2
 refused-element-requires-2 c κs = search rules
 
 returns-3 : tie.Need-returns-3
-unfolding elementAt
+unfolding element_at
 returns-3 c = search (checks.checks, checks.results, checks.handed) depth 20
 
 closed-by-requires : tie.Need-closed-by-requires
@@ -39,7 +39,7 @@ add-t13 : tie.Need-overflow-add-t13
 add-t13 c = search rules
 
 returns-4 : tie.Need-returns-4
-unfolding elementAt
+unfolding element_at
 returns-4 c = search (checks.checks, checks.results, checks.handed) depth 20
 
 number16-requires : tie.Need-number16-requires
@@ -49,7 +49,7 @@ refused-element-requires-3 : tie.Need-refused-element-requires-3
 refused-element-requires-3 c κs = search rules
 
 returns-5 : tie.Need-returns-5
-unfolding elementAt
+unfolding element_at
 returns-5 c = search (checks.checks, checks.results, checks.handed) depth 20
 
 tag-at-requires : tie.Need-tag-at-requires
@@ -62,14 +62,14 @@ refused-element-requires-4 : tie.Need-refused-element-requires-4
 refused-element-requires-4 c κs = search rules
 
 returns-6 : tie.Need-returns-6
-unfolding elementAt
+unfolding element_at
 returns-6 c = search (checks.checks, checks.results, checks.handed) depth 20
 
 vr-on-requires : tie.Need-vr-on-requires
 vr-on-requires c κs = search (checks.header-inside, checks.inside-stop)
 
 returns-7 : tie.Need-returns-7
-unfolding elementAt
+unfolding element_at
 returns-7 c = search (checks.checks, checks.results, checks.handed) depth 20
 
 pub header-spec : {M : Type 1} → statement M

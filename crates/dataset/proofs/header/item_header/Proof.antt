@@ -1,5 +1,5 @@
 -- `item_header` meets its contract: at each `return` the tests that led there say which case of `item_at` holds. Assumes nothing.
-use Rattle.dataset.proofs.laws.header.Checks as checks
+use Rattle.dataset.proofs.Laws.Header.Checks as checks
 use Rattle.dataset.specs.Header.{item_at}
 use borrow.Author.Rules.{rules}
 use Rattle.dataset.proofs.header.item_header.Statement.{statement}

@@ -1,6 +1,6 @@
--- `long_form` meets its contract: at each `return` the tests that led there say which case of `longAt` holds. Assumes nothing.
-use Rattle.dataset.proofs.laws.header.Checks as checks
-use Rattle.dataset.specs.Header.{longAt}
+-- `long_form` meets its contract: at each `return` the tests that led there say which case of `long_at` holds. Assumes nothing.
+use Rattle.dataset.proofs.Laws.Header.Checks as checks
+use Rattle.dataset.specs.Header.{long_at}
 use borrow.Author.Rules.{rules}
 use Rattle.dataset.proofs.header.long_form.Statement.{statement}
 use Rattle.dataset.proofs.header.long_form.Tie as tie
@@ -12,7 +12,7 @@ refused-element-requires : tie.Need-refused-element-requires
 refused-element-requires c κs = search rules
 
 returns : tie.Need-returns
-unfolding longAt
+unfolding long_at
 returns c = search (checks.checks, checks.results, checks.handed) depth 16
 
 add-number16 : tie.Need-overflow-add-number16
@@ -25,7 +25,7 @@ refused-element-requires-2 : tie.Need-refused-element-requires-2
 refused-element-requires-2 c κs = search rules
 
 returns-2 : tie.Need-returns-2
-unfolding longAt
+unfolding long_at
 returns-2 c = search (checks.checks, checks.results, checks.handed) depth 16
 
 add-number32 : tie.Need-overflow-add-number32
@@ -44,7 +44,7 @@ value-by-requires : tie.Need-value-by-requires
 value-by-requires c κs = search rules
 
 returns-3 : tie.Need-returns-3
-unfolding longAt
+unfolding long_at
 returns-3 c = search (checks.checks, checks.results, checks.handed) depth 16
 
 pub long-form-spec : {M : Type 1} → statement M

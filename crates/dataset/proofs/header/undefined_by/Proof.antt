@@ -1,15 +1,15 @@
--- `undefined_by` meets its contract: at each `return` the tests that led there say which case of `undefinedBy` holds. Assumes nothing.
-use Rattle.dataset.proofs.laws.header.Checks as checks
-use Rattle.dataset.specs.Header.{undefinedBy}
+-- `undefined_by` meets its contract: at each `return` the tests that led there say which case of `undefined_by` holds. Assumes nothing.
+use Rattle.dataset.proofs.Laws.Header.Checks as checks
+use Rattle.dataset.specs.Header.{undefined_by}
 use Rattle.dataset.proofs.header.undefined_by.Statement.{statement}
 use Rattle.dataset.proofs.header.undefined_by.Tie as tie
 
 returns : tie.Need-returns
-unfolding undefinedBy
+unfolding undefined_by
 returns c = search (checks.checks, checks.results)
 
 returns-2 : tie.Need-returns-2
-unfolding undefinedBy
+unfolding undefined_by
 returns-2 c = search (checks.checks, checks.results)
 
 pub undefined-by-spec : {M : Type 1} → statement M

@@ -1,6 +1,6 @@
--- `value_by` meets its contract: at each `return` the tests that led there say which case of `valueBy` holds. Assumes nothing.
-use Rattle.dataset.proofs.laws.header.Checks as checks
-use Rattle.dataset.specs.Header.{valueBy}
+-- `value_by` meets its contract: at each `return` the tests that led there say which case of `value_by` holds. Assumes nothing.
+use Rattle.dataset.proofs.Laws.Header.Checks as checks
+use Rattle.dataset.specs.Header.{value_by}
 use borrow.Author.Rules.{rules}
 use Rattle.dataset.proofs.header.value_by.Statement.{statement}
 use Rattle.dataset.proofs.header.value_by.Tie as tie
@@ -12,7 +12,7 @@ refused-element-requires : tie.Need-refused-element-requires
 refused-element-requires c κs = search rules
 
 returns : tie.Need-returns
-unfolding valueBy
+unfolding value_by
 returns c = search (checks.checks, checks.results)
 
 too-deep-requires : tie.Need-too-deep-requires
@@ -22,14 +22,14 @@ refused-element-requires-2 : tie.Need-refused-element-requires-2
 refused-element-requires-2 c κs = search rules
 
 returns-2 : tie.Need-returns-2
-unfolding valueBy
+unfolding value_by
 returns-2 c = search (checks.checks, checks.results)
 
 undefined-by-requires : tie.Need-undefined-by-requires
 undefined-by-requires c κs = search rules
 
 returns-3 : tie.Need-returns-3
-unfolding valueBy
+unfolding value_by
 returns-3 c = search (checks.checks, checks.results)
 
 sub-if4 : tie.Need-overflow-sub-if4
@@ -39,7 +39,7 @@ refused-element-requires-3 : tie.Need-refused-element-requires-3
 refused-element-requires-3 c κs = search rules
 
 returns-4 : tie.Need-returns-4
-unfolding valueBy
+unfolding value_by
 returns-4 c = search (checks.checks, checks.results)
 
 add-defined-by : tie.Need-overflow-add-defined-by
@@ -49,7 +49,7 @@ defined-by-requires : tie.Need-defined-by-requires
 defined-by-requires c κs = search rules
 
 returns-5 : tie.Need-returns-5
-unfolding valueBy
+unfolding value_by
 returns-5 c = search (checks.checks, checks.results)
 
 pub value-by-spec : {M : Type 1} → statement M

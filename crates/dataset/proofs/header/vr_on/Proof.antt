@@ -1,5 +1,5 @@
 -- `vr_on` meets its contract: by the form of the VR. Assumes nothing.
-use Rattle.dataset.proofs.laws.header.Checks as checks
+use Rattle.dataset.proofs.Laws.Header.Checks as checks
 use borrow.Author.Rules.{rules}
 use Rattle.dataset.proofs.header.vr_on.Statement.{statement}
 use Rattle.dataset.proofs.header.vr_on.Tie as tie

@@ -1,6 +1,6 @@
 -- `find` meets its contract: the invariant is `FindLoop`, and each place is a law of FindLoop. Assumes nothing.
-use Rattle.dataset.proofs.laws.lookup.FindLoop as steps
-use Rattle.dataset.proofs.laws.reading.Loops.{size-passed}
+use Rattle.dataset.proofs.Laws.Lookup.FindLoop as steps
+use Rattle.dataset.proofs.Laws.Reading.Loops.{size-passed}
 use borrow.Author.Rules.{rules}
 use Prim.Native.Nat.{◌-◌}
 use lib.ListN.{length}

@@ -1,5 +1,5 @@
 -- `lookup` meets its contract: it takes apart what `find` ensures. Assumes nothing.
-use Rattle.dataset.proofs.laws.lookup.FindLoop as steps
+use Rattle.dataset.proofs.Laws.Lookup.FindLoop as steps
 use Rattle.slices.specs.Lists.{between}
 use mathlib.Core.Path.{refl, ap}
 use Rattle.dataset.specs.declared.lookup.Found.{Found}

@@ -1,5 +1,5 @@
 -- `present_at` meets its contract. Assumes nothing.
-use Rattle.dataset.proofs.laws.lookup.FindLoop as steps
+use Rattle.dataset.proofs.Laws.Lookup.FindLoop as steps
 use borrow.Author.Rules.{rules}
 use Rattle.dataset.proofs.lookup.present_at.Statement.{statement}
 use Rattle.dataset.proofs.lookup.present_at.Tie as tie

@@ -3,8 +3,8 @@
 use borrow.Author.Rules.{rules}
 use Prim.Native.Nat.{ℕ, ◌+◌, ◌-◌, ◌*◌, ◌<◌}
 use mathlib.Core.Path.{refl}
-use Rattle.dataset.proofs.laws.reading.Loops as steps
-use Rattle.dataset.proofs.laws.reading.OneElement as one
+use Rattle.dataset.proofs.Laws.Reading.Loops as steps
+use Rattle.dataset.proofs.Laws.Reading.OneElement as one
 use borrow.Fn.Kinds.{In}
 use borrow.Fn.PlainCycle.{Measures, is, falls, and}
 use Rattle.dataset.proofs.reading.read_elements.Reads as read-elements

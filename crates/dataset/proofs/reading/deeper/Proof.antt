@@ -1,6 +1,6 @@
 -- `deeper` meets its contract: a law of Levels for each return. Assumes nothing.
 use borrow.Author.Rules.{rules}
-use Rattle.dataset.proofs.laws.reading.Levels as steps
+use Rattle.dataset.proofs.Laws.Reading.Levels as steps
 use Rattle.dataset.proofs.reading.deeper.Statement.{statement}
 use Rattle.dataset.proofs.reading.deeper.Tie as tie
 

@@ -1,5 +1,5 @@
 -- `holding` meets its contract: a law for each return. Assumes nothing.
-use Rattle.dataset.proofs.laws.reading.OneElement as steps
+use Rattle.dataset.proofs.Laws.Reading.OneElement as steps
 use borrow.Author.Rules.{rules}
 use Rattle.dataset.proofs.reading.holding.Statement.{statement}
 use Rattle.dataset.proofs.reading.holding.Tie as tie

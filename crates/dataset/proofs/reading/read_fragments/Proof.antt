@@ -2,7 +2,7 @@
 use borrow.Author.Rules.{rules}
 use Prim.Native.Nat.{◌-◌}
 use mathlib.Core.Path.{refl}
-use Rattle.dataset.proofs.laws.reading.Loops as steps
+use Rattle.dataset.proofs.Laws.Reading.Loops as steps
 use Rattle.dataset.proofs.reading.read_fragments.Statement.{statement}
 use Rattle.dataset.proofs.reading.read_fragments.Tie as tie
 

@@ -1,5 +1,5 @@
 -- `or_here` meets its contract: each place by its law in SeekLoop. Assumes nothing.
-use Rattle.dataset.proofs.laws.seek.SeekLoop as steps
+use Rattle.dataset.proofs.Laws.Seek.SeekLoop as steps
 use borrow.Author.Rules.{rules}
 use Rattle.dataset.proofs.seek.or_here.Statement.{statement}
 use Rattle.dataset.proofs.seek.or_here.Tie as tie

@@ -1,5 +1,5 @@
 -- `place_by` meets its contract: each place by its law in Places. Assumes nothing.
-use Rattle.dataset.proofs.laws.seek.Places as places
+use Rattle.dataset.proofs.Laws.Seek.Places as places
 use Rattle.dataset.proofs.seek.place_by.Statement.{statement}
 use Rattle.dataset.proofs.seek.place_by.Tie as tie
 

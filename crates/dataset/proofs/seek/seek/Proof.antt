@@ -1,6 +1,6 @@
 -- `seek` meets its contract: each place by its law in SeekLoop. Assumes nothing.
-use Rattle.dataset.proofs.laws.seek.SeekLoop as steps
-use Rattle.dataset.proofs.laws.extent.Outside.{inside-lies}
+use Rattle.dataset.proofs.Laws.Seek.SeekLoop as steps
+use Rattle.dataset.proofs.Laws.Extent.Outside.{inside-lies}
 use borrow.Author.Rules.{rules}
 use Rattle.dataset.proofs.seek.seek.Statement.{statement}
 use Rattle.dataset.proofs.seek.seek.Tie as tie

@@ -1,5 +1,5 @@
 -- `seek_in` meets its contract: the invariant is `SeekLoop`, and each place is a law of SeekLoop. Assumes nothing.
-use Rattle.dataset.proofs.laws.seek.SeekLoop as steps
+use Rattle.dataset.proofs.Laws.Seek.SeekLoop as steps
 use borrow.Author.Rules.{rules}
 use Prim.Native.Nat.{◌-◌}
 use Rattle.dataset.proofs.seek.seek_in.Statement.{statement}

@@ -1,4 +1,4 @@
-use Rattle.digest.proofs.laws.padding.Padded.{pasted}
+use Rattle.digest.proofs.Laws.Padding.Padded.{pasted}
 use Rattle.std.proofs.Common.{rules}
 use Rattle.digest.proofs.bytes.put.Statement.{statement}
 use Rattle.digest.proofs.bytes.put.Tie as tie

@@ -1,12 +1,12 @@
 use Rattle.std.proofs.Common.{◌≡◌, ◌-◌, ◌/◌, ◌%◌, ◌≤◌, length, take, sym, refl, ◌∙◌, arith, take_all, rules}
 use Rattle.slices.specs.Lists.{at, tabulate}
-use Rattle.digest.specs.Padding.{bigEndian, byte_of, word_bytes}
-use Rattle.slices.proofs.laws.Tables.{tabulate-next}
+use Rattle.digest.specs.Padding.{big_endian, byte_of, word_bytes}
+use Rattle.slices.proofs.Laws.Tables.{tabulate-next}
 use Rattle.digest.proofs.bytes.word_bytes.Statement.{statement}
 use Rattle.digest.proofs.bytes.word_bytes.Tie as tie
 
 abbrev invariant-loop : tie.invariant-loop
-invariant-loop words bytes₀ i₀ bytes i = (i ≤ 32) × (length bytes ≡ 32) × (take i bytes ≡ tabulate (λ j. byte_of bigEndian 4 (at words (j / 4)) (j % 4)) i)
+invariant-loop words bytes₀ i₀ bytes i = (i ≤ 32) × (length bytes ≡ 32) × (take i bytes ≡ tabulate (λ j. byte_of big_endian 4 (at words (j / 4)) (j % 4)) i)
 
 abbrev decreases-loop : tie.decreases-loop
 decreases-loop words bytes₀ i₀ bytes i = 32 - i

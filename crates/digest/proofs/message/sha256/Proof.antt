@@ -3,7 +3,7 @@ use Rattle.digest.specs.Sha256.{sha256}
 use Rattle.digest.specs.Running.{start, fed, feeding, finishing}
 use Rattle.digest.specs.declared.running.Running.{Running}
 use Rattle.digest.specs.declared.running.Fed.{Fed}
-use Rattle.digest.proofs.laws.running.CallsInTurn.{start-fed, part-taken, part-refused, parts-finished}
+use Rattle.digest.proofs.Laws.Running.CallsInTurn.{start-fed, part-taken, part-refused, parts-finished}
 use Rattle.digest.proofs.message.sha256.Statement.{statement}
 use Rattle.digest.proofs.message.sha256.Tie as tie
 

@@ -1,5 +1,5 @@
 use Rattle.std.proofs.Common.{◌≡◌, length, take, sym, arith, length-set, length-take, length-take-le, rules}
-use Rattle.digest.proofs.laws.padding.Padded.{padded-stores}
+use Rattle.digest.proofs.Laws.Padding.Padded.{padded-stores}
 use Rattle.digest.proofs.padding.padded.Statement.{statement}
 use Rattle.digest.proofs.padding.padded.Tie as tie
 

@@ -1,5 +1,5 @@
 use Rattle.std.proofs.Common.{refl, ◌∙◌, rules}
-use Rattle.digest.proofs.laws.running.WaitingArray.{rest-in-zeros}
+use Rattle.digest.proofs.Laws.Running.WaitingArray.{rest-in-zeros}
 use Rattle.digest.proofs.running.rest_waiting.Statement.{statement}
 use Rattle.digest.proofs.running.rest_waiting.Tie as tie
 

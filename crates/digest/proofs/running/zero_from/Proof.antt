@@ -1,4 +1,4 @@
-use Rattle.digest.proofs.laws.running.Zeros.{zeros-from}
+use Rattle.digest.proofs.Laws.Running.Zeros.{zeros-from}
 use Rattle.std.proofs.Common.{rules}
 use Rattle.digest.proofs.running.zero_from.Statement.{statement}
 use Rattle.digest.proofs.running.zero_from.Tie as tie

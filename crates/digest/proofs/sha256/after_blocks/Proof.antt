@@ -1,7 +1,7 @@
 use Rattle.std.proofs.Common.{◌≡◌, ◌-◌, ◌/◌, ◌%◌, ◌≤◌, length, refl, arith, length-drop, length-take, rules}
 use Rattle.digest.specs.Sha256.{constants, compressed}
-use Rattle.digest.specs.Message.{chain, afterBlocks}
-use Rattle.digest.proofs.laws.running.Chain.{chain_next}
+use Rattle.digest.specs.Message.{chain, after_blocks}
+use Rattle.digest.proofs.Laws.Running.Chain.{chain_next}
 use Rattle.digest.proofs.sha256.after_blocks.Statement.{statement}
 use Rattle.digest.proofs.sha256.after_blocks.Tie as tie
 
@@ -46,7 +46,7 @@ loop-again c =
     (search rules, search rules, chain_next compressed _ _ _ _ loop.at loop.invariant.1 loop.invariant.2 c.compressed.ensures)
 
 returns : tie.Need-returns invariant-loop decreases-loop
-unfolding afterBlocks
+unfolding after_blocks
 returns c =
     let e : c.before.loop.at / 64 ≡ length c.before.before.before.before.args.bytes.now / 64 = omega arith in
     rw e at c.before.loop.invariant.2

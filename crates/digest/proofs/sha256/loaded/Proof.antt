@@ -1,7 +1,7 @@
 use Rattle.std.proofs.Common.{◌≡◌, ◌-◌, ◌≤◌, length, take, refl, arith, rules}
 use Rattle.slices.specs.Lists.{tabulate}
 use Rattle.digest.specs.Sha256.{word_of}
-use Rattle.slices.proofs.laws.Tables.{tabulate-next}
+use Rattle.slices.proofs.Laws.Tables.{tabulate-next}
 use Rattle.digest.proofs.sha256.loaded.Statement.{statement}
 use Rattle.digest.proofs.sha256.loaded.Tie as tie
 

@@ -1,7 +1,7 @@
 use Rattle.std.proofs.Common.{ℕ, ◌+◌, ◌-◌, ◌%◌, ◌^◌, ◌∙◌, ap₂, rules}
 use Rattle.slices.specs.Lists.{at}
-use Rattle.digest.specs.Sha256.{nextWord}
-use Rattle.digest.proofs.laws.sha256.Rounds.{sum_more}
+use Rattle.digest.specs.Sha256.{next_word}
+use Rattle.digest.proofs.Laws.Sha256.Rounds.{sum_more}
 use Rattle.digest.proofs.sha256.next_word.Statement.{statement}
 use Rattle.digest.proofs.sha256.next_word.Tie as tie
 
@@ -57,7 +57,7 @@ wrapping-add-u32-requires-3 : tie.Need-wrapping-add-u32-requires-3
 wrapping-add-u32-requires-3 c κs = search rules
 
 returns : tie.Need-returns
-unfolding nextWord
+unfolding next_word
 returns c =
     let b₅ = c.before.before.before.before.before in
     let args = b₅.before.before.before.before.args in

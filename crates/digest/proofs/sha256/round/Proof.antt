@@ -1,6 +1,6 @@
 use Rattle.std.proofs.Common.{ℕ, ◌+◌, ◌%◌, ◌^◌, ap, ◌∙◌, ap₂, rules}
 use Rattle.digest.specs.Sha256.{round}
-use Rattle.digest.proofs.laws.sha256.Rounds.{sum_more}
+use Rattle.digest.proofs.Laws.Sha256.Rounds.{sum_more}
 use Rattle.digest.proofs.sha256.round.Statement.{statement}
 use Rattle.digest.proofs.sha256.round.Tie as tie
 

@@ -1,6 +1,6 @@
 use Rattle.std.proofs.Common.{◌≡◌, ◌+◌, ◌-◌, ◌%◌, ◌≤◌, refl, arith, rules}
 use Rattle.digest.specs.Sha256.{rounds}
-use Rattle.digest.proofs.laws.sha256.Rounds.{rounds-next}
+use Rattle.digest.proofs.Laws.Sha256.Rounds.{rounds-next}
 use Rattle.digest.proofs.sha256.rounds.Statement.{statement}
 use Rattle.digest.proofs.sha256.rounds.Tie as tie
 

@@ -1,8 +1,8 @@
 use Rattle.std.proofs.Common.{◌≡◌, ◌+◌, ◌-◌, ◌%◌, ◌≤◌, length, take, sym, ◌∙◌, arith, length-set, take_all, rules}
 use Rattle.slices.specs.Lists.{tabulate}
 use Rattle.digest.specs.Sha256.{word_of, extended, schedule}
-use Rattle.slices.proofs.laws.Tables.{length-tabulate}
-use Rattle.digest.proofs.laws.sha256.Rounds.{extended-next}
+use Rattle.slices.proofs.Laws.Tables.{length-tabulate}
+use Rattle.digest.proofs.Laws.Sha256.Rounds.{extended-next}
 use Rattle.digest.proofs.sha256.schedule.Statement.{statement}
 use Rattle.digest.proofs.sha256.schedule.Tie as tie
 

@@ -14,7 +14,7 @@ rotr-requires-3 : tie.Need-rotr-requires-3
 rotr-requires-3 c κs = search rules
 
 returns : tie.Need-returns
-unfolding Words.bigSigma0
+unfolding Words.big_sigma0
 returns c = λ i. bit_xor (bit_xor (c.before.before.rotr.ensures i) (c.before.rotr2.ensures i)) (c.rotr3.ensures i)
 
 pub big-sigma0-spec : {M : Type 1} → statement M

@@ -11,7 +11,7 @@ rotr-requires-2 : tie.Need-rotr-requires-2
 rotr-requires-2 c κs = search rules
 
 returns : tie.Need-returns
-unfolding Words.smallSigma0
+unfolding Words.small_sigma0
 returns c = λ i. bit_xor (bit_xor (c.before.rotr.ensures i) (c.rotr2.ensures i)) (Words.shr 3 c.before.before.args.x)
 
 pub small-sigma0-spec : {M : Type 1} → statement M

@@ -1,5 +1,5 @@
 use native.Mathlib.Omega.{arith}
-use Rattle.digest_vectors.proofs.laws.parts.SoFar.{SoFar, so-far-start, so-far-next, so-far-refused, so-far-all}
+use Rattle.digest_vectors.proofs.Laws.Parts.SoFar.{SoFar, so-far-start, so-far-next, so-far-refused, so-far-all}
 use borrow.Author.Rules.{rules}
 use Prim.Native.Nat.{◌-◌}
 use lib.ListN.{length}

@@ -1,5 +1,5 @@
 -- `eddyplume_digest_finish` meets its contract. Assumes nothing.
-use Rattle.eddyplume.proofs.laws.Boundary as steps
+use Rattle.eddyplume.proofs.Laws.Boundary as steps
 use borrow.Author.Rules.{rules}
 use Rattle.eddyplume.proofs.digests.eddyplume_digest_finish.Statement.{statement}
 use Rattle.eddyplume.proofs.digests.eddyplume_digest_finish.Tie as tie

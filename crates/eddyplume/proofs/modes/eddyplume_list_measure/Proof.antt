@@ -1,5 +1,5 @@
 -- `eddyplume_list_measure` meets its contract. Assumes nothing.
-use Rattle.eddyplume.proofs.laws.Boundary as steps
+use Rattle.eddyplume.proofs.Laws.Boundary as steps
 use borrow.Author.Rules.{rules}
 use Rattle.eddyplume.proofs.modes.eddyplume_list_measure.Statement.{statement}
 use Rattle.eddyplume.proofs.modes.eddyplume_list_measure.Tie as tie

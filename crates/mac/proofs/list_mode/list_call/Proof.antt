@@ -1,6 +1,6 @@
 -- `list_call` meets its contract: each place by its law in ListMode. Assumes nothing.
-use Rattle.mac.proofs.laws.list_mode.ListMode as steps
-use Rattle.dataset.proofs.laws.reading.Loops.{size-passed}
+use Rattle.mac.proofs.Laws.ListMode.ListMode as steps
+use Rattle.dataset.proofs.Laws.Reading.Loops.{size-passed}
 use borrow.Author.Rules.{rules}
 use Rattle.mac.proofs.list_mode.list_call.Statement.{statement}
 use Rattle.mac.proofs.list_mode.list_call.Tie as tie

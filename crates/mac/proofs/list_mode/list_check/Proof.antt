@@ -1,6 +1,6 @@
 -- `list_check` meets its contract. Assumes nothing.
-use Rattle.mac.proofs.laws.verdict.VerdictOfChecks as into
-use Rattle.mac.proofs.laws.list_mode.ListMode as steps
+use Rattle.mac.proofs.Laws.Verdict.VerdictOfChecks as into
+use Rattle.mac.proofs.Laws.ListMode.ListMode as steps
 use borrow.Author.Rules.{rules}
 use Rattle.mac.proofs.list_mode.list_check.Statement.{statement}
 use Rattle.mac.proofs.list_mode.list_check.Tie as tie

@@ -1,5 +1,5 @@
 -- `list_stream` meets its contract. Assumes nothing.
-use Rattle.mac.proofs.laws.list_mode.ListMode as steps
+use Rattle.mac.proofs.Laws.ListMode.ListMode as steps
 use borrow.Author.Rules.{rules}
 use Rattle.mac.proofs.list_mode.list_stream.Statement.{statement}
 use Rattle.mac.proofs.list_mode.list_stream.Tie as tie

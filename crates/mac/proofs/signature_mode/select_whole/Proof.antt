@@ -1,6 +1,6 @@
 -- `select_whole` meets its contract: each place by its law in SignatureMode. Assumes nothing.
-use Rattle.mac.proofs.laws.signature_mode.SignatureMode as steps
-use Rattle.dataset.proofs.laws.reading.Loops.{size-passed}
+use Rattle.mac.proofs.Laws.SignatureMode.SignatureMode as steps
+use Rattle.dataset.proofs.Laws.Reading.Loops.{size-passed}
 use borrow.Author.Rules.{rules}
 use Rattle.mac.proofs.signature_mode.select_whole.Statement.{statement}
 use Rattle.mac.proofs.signature_mode.select_whole.Tie as tie

@@ -1,5 +1,5 @@
 -- `signature_measure` meets its contract: each place by its law in SignatureMode. Assumes nothing.
-use Rattle.mac.proofs.laws.signature_mode.SignatureMode as steps
+use Rattle.mac.proofs.Laws.SignatureMode.SignatureMode as steps
 use borrow.Author.Rules.{rules}
 use Rattle.mac.proofs.signature_mode.signature_measure.Statement.{statement}
 use Rattle.mac.proofs.signature_mode.signature_measure.Tie as tie

@@ -1,5 +1,5 @@
 -- `write_selected` meets its contract: each place by its law in SignatureMode. Assumes nothing.
-use Rattle.mac.proofs.laws.signature_mode.SignatureMode as steps
+use Rattle.mac.proofs.Laws.SignatureMode.SignatureMode as steps
 use borrow.Author.Rules.{rules}
 use Rattle.mac.proofs.signature_mode.write_selected.Statement.{statement}
 use Rattle.mac.proofs.signature_mode.write_selected.Tie as tie

@@ -1,5 +1,5 @@
 -- `check_of` meets its contract: each place by its law in VerdictOfChecks. Assumes nothing.
-use Rattle.mac.proofs.laws.verdict.VerdictOfChecks as steps
+use Rattle.mac.proofs.Laws.Verdict.VerdictOfChecks as steps
 use borrow.Author.Rules.{rules}
 use Rattle.mac.proofs.verdict.check_of.Statement.{statement}
 use Rattle.mac.proofs.verdict.check_of.Tie as tie

@@ -1,5 +1,5 @@
 -- `digest_by` meets its contract. Assumes nothing.
-use Rattle.mac.proofs.laws.verdict.VerdictOfChecks as steps
+use Rattle.mac.proofs.Laws.Verdict.VerdictOfChecks as steps
 use borrow.Author.Rules.{rules}
 use Rattle.mac.proofs.verdict.digest_by.Statement.{statement}
 use Rattle.mac.proofs.verdict.digest_by.Tie as tie

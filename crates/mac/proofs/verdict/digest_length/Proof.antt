@@ -1,5 +1,5 @@
 -- `digest_length` meets its contract. Assumes nothing.
-use Rattle.mac.proofs.laws.verdict.VerdictOfChecks as steps
+use Rattle.mac.proofs.Laws.Verdict.VerdictOfChecks as steps
 use Rattle.mac.proofs.verdict.digest_length.Statement.{statement}
 use Rattle.mac.proofs.verdict.digest_length.Tie as tie
 

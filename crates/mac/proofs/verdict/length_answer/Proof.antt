@@ -1,5 +1,5 @@
 -- `length_answer` meets its contract. Assumes nothing.
-use Rattle.mac.proofs.laws.verdict.VerdictOfChecks as steps
+use Rattle.mac.proofs.Laws.Verdict.VerdictOfChecks as steps
 use borrow.Author.Rules.{rules}
 use Rattle.mac.proofs.verdict.length_answer.Statement.{statement}
 use Rattle.mac.proofs.verdict.length_answer.Tie as tie

@@ -1,5 +1,5 @@
 -- `verdict_of` meets its contract: each place by its law in VerdictOfChecks. Assumes nothing.
-use Rattle.mac.proofs.laws.verdict.VerdictOfChecks as steps
+use Rattle.mac.proofs.Laws.Verdict.VerdictOfChecks as steps
 use borrow.Author.Rules.{rules}
 use Rattle.mac.proofs.verdict.verdict_of.Statement.{statement}
 use Rattle.mac.proofs.verdict.verdict_of.Tie as tie

@@ -1,6 +1,6 @@
 -- `print_frame` meets its contract: what is printed fits into the array. Assumes nothing.
 use borrow.Author.Rules.{rules}
-use Rattle.mac_frame.proofs.laws.text.Fits as steps
+use Rattle.mac_frame.proofs.Laws.Text.Fits as steps
 use Rattle.mac_frame.proofs.frame.print_frame.Statement.{statement}
 use Rattle.mac_frame.proofs.frame.print_frame.Tie as tie
 

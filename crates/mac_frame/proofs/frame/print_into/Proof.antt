@@ -1,4 +1,4 @@
-use Rattle.mac_frame.proofs.laws.frame.FrameTests as steps
+use Rattle.mac_frame.proofs.Laws.Frame.FrameTests as steps
 use borrow.Author.Rules.{rules}
 use Rattle.mac_frame.proofs.frame.print_into.Statement.{statement}
 use Rattle.mac_frame.proofs.frame.print_into.Tie as tie

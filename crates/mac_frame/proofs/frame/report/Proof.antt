@@ -4,11 +4,11 @@ use Prim.Native.Nat.{◌≤◌}
 use lib.ListN.{length, take, length-take}
 use lib.Seq.{length-take-le}
 use Rattle.slices.specs.Lists.{between}
-use Rattle.mac.specs.Result.{outputAfter}
+use Rattle.mac.specs.Result.{output_after}
 use Rattle.mac.specs.ListMode.{Call, answer, result}
-use Rattle.mac_frame.specs.Frame.{frameCall}
-use Rattle.mac_frame.proofs.laws.text.TextPieces.{length-line}
-use Rattle.mac_frame.proofs.laws.frame.FrameTests.{report-refused, report-accepted, within-room, frame-call}
+use Rattle.mac_frame.specs.Frame.{frame_call}
+use Rattle.mac_frame.proofs.Laws.Text.TextPieces.{length-line}
+use Rattle.mac_frame.proofs.Laws.Frame.FrameTests.{report-refused, report-accepted, within-room, frame-call}
 use borrow.Author.Rules.{rules}
 use Rattle.mac_frame.proofs.frame.report.Statement.{statement}
 use Rattle.mac_frame.proofs.frame.report.Tie as tie
@@ -53,7 +53,7 @@ same_length c = search rules
 abbrev framed : (c : tie.After-list-stream) → Call
 framed c =
     let args = c.before.before.before.before.before.before.before.args in
-    frameCall args.input.now args.end
+    frame_call args.input.now args.end
 
 answered : (c : tie.After-list-stream) → c.list-stream.result ≡ answer (framed c)
 unfolding between
@@ -63,13 +63,13 @@ answered c =
     ∙ ap answer (frame-call args.input.now c.before.before.before.before.output.result args.end (search rules))
 
 left : (c : tie.After-list-stream)
-    → c.list-stream.new.1.1.0 ≡ outputAfter (result (framed c)) c.before.before.before.before.output.result
+    → c.list-stream.new.1.1.0 ≡ output_after (result (framed c)) c.before.before.before.before.output.result
 unfolding between
 left c =
     let args = c.before.before.before.before.before.before.before.args in
     let out = c.before.before.before.before.output.result in
     c.list-stream.ensures.output
-    ∙ ap (λ (k : Call). outputAfter (result k) out) (frame-call args.input.now out args.end (search rules))
+    ∙ ap (λ (k : Call). output_after (result k) out) (frame-call args.input.now out args.end (search rules))
 
 returns : tie.Need-returns
 returns c =

@@ -1,6 +1,6 @@
 use native.Mathlib.Omega.{arith}
 use Prim.Native.Nat.{◌/◌}
-use Rattle.mac_frame.proofs.laws.text.TextPieces.{length-decimal, decimal-wrote-last, decimal-wrote-more}
+use Rattle.mac_frame.proofs.Laws.Text.TextPieces.{length-decimal, decimal-wrote-last, decimal-wrote-more}
 use borrow.Author.Rules.{rules}
 use Prim.Native.Nat.{ℕ, ◌<◌}
 use borrow.Fn.Kinds.{In}

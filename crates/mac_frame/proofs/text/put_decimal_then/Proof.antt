@@ -1,5 +1,5 @@
 use native.Mathlib.Omega.{arith}
-use Rattle.mac_frame.proofs.laws.text.TextPieces.{length-decimal, decimal-then-wrote}
+use Rattle.mac_frame.proofs.Laws.Text.TextPieces.{length-decimal, decimal-then-wrote}
 use borrow.Author.Rules.{rules}
 use Rattle.mac_frame.proofs.text.put_decimal_then.Statement.{statement}
 use Rattle.mac_frame.proofs.text.put_decimal_then.Tie as tie

@@ -1,4 +1,4 @@
-use Rattle.mac_frame.proofs.laws.text.TextPieces.{hex-ended, hex-open}
+use Rattle.mac_frame.proofs.Laws.Text.TextPieces.{hex-ended, hex-open}
 use borrow.Author.Rules.{rules}
 use Rattle.mac_frame.proofs.text.put_hex.Statement.{statement}
 use Rattle.mac_frame.proofs.text.put_hex.Tie as tie

@@ -1,6 +1,6 @@
 use native.Mathlib.Omega.{arith}
 use Rattle.mac_frame.specs.Text.{space}
-use Rattle.mac_frame.proofs.laws.text.TextPieces.{length-decimal-then, line_wrote}
+use Rattle.mac_frame.proofs.Laws.Text.TextPieces.{length-decimal-then, line_wrote}
 use borrow.Author.Rules.{rules}
 use Rattle.mac_frame.proofs.text.put_line.Statement.{statement}
 use Rattle.mac_frame.proofs.text.put_line.Tie as tie

@@ -1,4 +1,4 @@
-use Rattle.mac_frame.proofs.laws.text.TextPieces.{Lines, lines_start, lines-again, lines_end}
+use Rattle.mac_frame.proofs.Laws.Text.TextPieces.{Lines, lines_start, lines-again, lines_end}
 use borrow.Author.Rules.{rules}
 use Prim.Native.Nat.{◌-◌}
 use lib.ListN.{length}

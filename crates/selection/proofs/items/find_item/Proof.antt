@@ -1,5 +1,5 @@
 -- `find_item` meets its contract: the invariant is `FindItemLoop`, and each place is a law of FindItemLoop. Assumes nothing.
-use Rattle.selection.proofs.laws.items.FindItemLoop as steps
+use Rattle.selection.proofs.Laws.Items.FindItemLoop as steps
 use borrow.Author.Rules.{rules}
 use Prim.Native.Nat.{◌-◌}
 use Rattle.selection.proofs.items.find_item.Statement.{statement}

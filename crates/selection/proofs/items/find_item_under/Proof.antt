@@ -1,5 +1,5 @@
 -- `find_item_under` meets its contract: each place by its law in PlaceValues. Assumes nothing.
-use Rattle.selection.proofs.laws.PlaceValues as places
+use Rattle.selection.proofs.Laws.PlaceValues as places
 use borrow.Author.Rules.{rules}
 use Rattle.selection.proofs.items.find_item_under.Statement.{statement}
 use Rattle.selection.proofs.items.find_item_under.Tie as tie

@@ -1,6 +1,6 @@
 -- `same_mac_id` meets its contract: each place by its law in MacIdTests. Assumes nothing.
-use Rattle.selection.proofs.laws.PlaceValues as places
-use Rattle.selection.proofs.laws.items.MacIdTests as tests
+use Rattle.selection.proofs.Laws.PlaceValues as places
+use Rattle.selection.proofs.Laws.Items.MacIdTests as tests
 use borrow.Author.Tests.{not-true, not-false}
 use borrow.Author.Rules.{rules}
 use Rattle.selection.proofs.items.same_mac_id.Statement.{statement}

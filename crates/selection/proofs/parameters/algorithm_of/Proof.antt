@@ -1,7 +1,7 @@
 -- `algorithm_of` meets its contract: each place by its law in ValueTests. Assumes nothing.
-use Rattle.selection.proofs.laws.PlaceValues as places
-use Rattle.selection.proofs.laws.parameters.ValueTests as tests
-use Rattle.selection.specs.Selection.{algorithmOf}
+use Rattle.selection.proofs.Laws.PlaceValues as places
+use Rattle.selection.proofs.Laws.Parameters.ValueTests as tests
+use Rattle.selection.specs.Selection.{algorithm_of}
 use borrow.Author.Tests.{not-true, not-false}
 use borrow.Author.Rules.{rules}
 use Rattle.selection.proofs.parameters.algorithm_of.Statement.{statement}
@@ -11,11 +11,11 @@ enum-known-p : tie.Need-enum-known-p
 enum-known-p c = search rules
 
 returns : tie.Need-returns
-unfolding algorithmOf
+unfolding algorithm_of
 returns c = search places.test-none
 
 returns-2 : tie.Need-returns-2
-unfolding algorithmOf
+unfolding algorithm_of
 returns-2 c = search places.test-other
 
 sub-is-sha256 : tie.Need-overflow-sub-is-sha256

@@ -1,6 +1,6 @@
 -- `bad_syntax` meets its contract: each place by its law in ValueTests. Assumes nothing.
-use Rattle.selection.proofs.laws.PlaceValues as places
-use Rattle.selection.specs.Selection.{badTransferSyntax}
+use Rattle.selection.proofs.Laws.PlaceValues as places
+use Rattle.selection.specs.Selection.{bad_transfer_syntax}
 use borrow.Author.Rules.{rules}
 use Rattle.selection.proofs.parameters.bad_syntax.Statement.{statement}
 use Rattle.selection.proofs.parameters.bad_syntax.Tie as tie
@@ -9,11 +9,11 @@ enum-known-p : tie.Need-enum-known-p
 enum-known-p c = search rules
 
 returns : tie.Need-returns
-unfolding badTransferSyntax
+unfolding bad_transfer_syntax
 returns c = search places.test-none
 
 returns-2 : tie.Need-returns-2
-unfolding badTransferSyntax
+unfolding bad_transfer_syntax
 returns-2 c = search places.test-other
 
 sub-bad-uid : tie.Need-overflow-sub-bad-uid

@@ -1,5 +1,5 @@
 -- `bad_uid` meets its contract: each place by its law in ValueTests. Assumes nothing.
-use Rattle.selection.proofs.laws.parameters.ValueTests as tests
+use Rattle.selection.proofs.Laws.Parameters.ValueTests as tests
 use borrow.Author.Tests.{not-true, not-false}
 use borrow.Author.Rules.{rules}
 use Rattle.selection.proofs.parameters.bad_uid.Statement.{statement}

@@ -1,5 +1,5 @@
 -- `less_nul` meets its contract: each place by its law in ValueTests. Assumes nothing.
-use Rattle.selection.proofs.laws.parameters.ValueTests as tests
+use Rattle.selection.proofs.Laws.Parameters.ValueTests as tests
 use borrow.Author.Rules.{rules}
 use Rattle.selection.proofs.parameters.less_nul.Statement.{statement}
 use Rattle.selection.proofs.parameters.less_nul.Tie as tie

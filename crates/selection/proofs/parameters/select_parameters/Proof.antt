@@ -1,6 +1,6 @@
 -- `select_parameters` meets its contract: each place by its law in Parameters. Assumes nothing.
-use Rattle.selection.proofs.laws.PlaceValues as places
-use Rattle.selection.proofs.laws.parameters.Parameters as steps
+use Rattle.selection.proofs.Laws.PlaceValues as places
+use Rattle.selection.proofs.Laws.Parameters.Parameters as steps
 use borrow.Author.Rules.{rules}
 use Rattle.selection.proofs.parameters.select_parameters.Statement.{statement}
 use Rattle.selection.proofs.parameters.select_parameters.Tie as tie

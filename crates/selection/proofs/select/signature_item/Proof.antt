@@ -1,5 +1,5 @@
 -- `signature_item` meets its contract: each place by its law in SelectPlaces. Assumes nothing.
-use Rattle.selection.proofs.laws.select.SelectPlaces as steps
+use Rattle.selection.proofs.Laws.Select.SelectPlaces as steps
 use borrow.Author.Rules.{rules}
 use Rattle.selection.proofs.select.signature_item.Statement.{statement}
 use Rattle.selection.proofs.select.signature_item.Tie as tie

@@ -1,5 +1,5 @@
 -- `is_kept` meets its contract. Assumes nothing.
-use Rattle.stream.proofs.laws.keep.Kept as steps
+use Rattle.stream.proofs.Laws.Keep.Kept as steps
 use borrow.Author.Rules.{rules}
 use Rattle.stream.proofs.keep.is_kept.Statement.{statement}
 use Rattle.stream.proofs.keep.is_kept.Tie as tie

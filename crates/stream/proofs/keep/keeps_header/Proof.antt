@@ -1,5 +1,5 @@
 -- `keeps_header` meets its contract. Assumes nothing.
-use Rattle.stream.proofs.laws.keep.Kept as steps
+use Rattle.stream.proofs.Laws.Keep.Kept as steps
 use borrow.Author.Rules.{rules}
 use Rattle.stream.proofs.keep.keeps_header.Statement.{statement}
 use Rattle.stream.proofs.keep.keeps_header.Tie as tie

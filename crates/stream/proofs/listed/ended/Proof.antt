@@ -1,5 +1,5 @@
 -- `ended` meets its contract: each place by its law in MergeArms. Assumes nothing.
-use Rattle.stream.proofs.laws.listed.MergeArms as steps
+use Rattle.stream.proofs.Laws.Listed.MergeArms as steps
 use borrow.Author.Rules.{rules}
 use Rattle.stream.proofs.listed.ended.Statement.{statement}
 use Rattle.stream.proofs.listed.ended.Tie as tie

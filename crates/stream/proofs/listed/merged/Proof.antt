@@ -1,5 +1,5 @@
 -- `merged` meets its contract: each place by its law in MergeArms. Assumes nothing.
-use Rattle.stream.proofs.laws.listed.MergeArms as steps
+use Rattle.stream.proofs.Laws.Listed.MergeArms as steps
 use borrow.Author.Rules.{rules}
 use Rattle.stream.proofs.listed.merged.Statement.{statement}
 use Rattle.stream.proofs.listed.merged.Tie as tie

@@ -1,6 +1,6 @@
 -- `next_listed` meets its contract: each place by its law in MergeArms, TagChecks. Assumes nothing.
-use Rattle.stream.proofs.laws.listed.MergeArms as steps
-use Rattle.stream.proofs.laws.tag_list.TagChecks as tags
+use Rattle.stream.proofs.Laws.Listed.MergeArms as steps
+use Rattle.stream.proofs.Laws.TagList.TagChecks as tags
 use borrow.Author.Rules.{rules}
 use Rattle.stream.proofs.listed.next_listed.Statement.{statement}
 use Rattle.stream.proofs.listed.next_listed.Tie as tie

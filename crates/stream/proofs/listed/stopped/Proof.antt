@@ -1,5 +1,5 @@
 -- `stopped` meets its contract: each place by its law in MergeArms. Assumes nothing.
-use Rattle.stream.proofs.laws.listed.MergeArms as steps
+use Rattle.stream.proofs.Laws.Listed.MergeArms as steps
 use borrow.Author.Rules.{rules}
 use Rattle.stream.proofs.listed.stopped.Statement.{statement}
 use Rattle.stream.proofs.listed.stopped.Tie as tie

@@ -1,5 +1,5 @@
 -- `walk_list` meets its contract: each place by its law in WalkListLoop. Assumes nothing.
-use Rattle.stream.proofs.laws.listed.WalkListLoop as steps
+use Rattle.stream.proofs.Laws.Listed.WalkListLoop as steps
 use borrow.Author.Rules.{rules}
 use Prim.Native.Nat.{◌-◌}
 use Rattle.stream.proofs.listed.walk_list.Statement.{statement}

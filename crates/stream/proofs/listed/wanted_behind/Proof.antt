@@ -1,5 +1,5 @@
 -- `wanted_behind` meets its contract: each place by its law in MergeArms. Assumes nothing.
-use Rattle.stream.proofs.laws.listed.MergeArms as steps
+use Rattle.stream.proofs.Laws.Listed.MergeArms as steps
 use borrow.Author.Rules.{rules}
 use Rattle.stream.proofs.listed.wanted_behind.Statement.{statement}
 use Rattle.stream.proofs.listed.wanted_behind.Tie as tie

@@ -1,5 +1,5 @@
 -- `own_keep` meets its contract: each arm by its law in OwnLoop. Assumes nothing.
-use Rattle.stream.proofs.laws.own.OwnLoop as steps
+use Rattle.stream.proofs.Laws.Own.OwnLoop as steps
 use borrow.Author.Rules.{rules}
 use Rattle.stream.proofs.own.own_keep.Statement.{statement}
 use Rattle.stream.proofs.own.own_keep.Tie as tie

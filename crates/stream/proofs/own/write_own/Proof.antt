@@ -1,5 +1,5 @@
 -- `write_own` meets its contract: each place by its law in OwnLoop. Assumes nothing.
-use Rattle.stream.proofs.laws.own.OwnLoop as steps
+use Rattle.stream.proofs.Laws.Own.OwnLoop as steps
 use borrow.Author.Rules.{rules}
 use Prim.Native.Nat.{◌-◌}
 use Rattle.stream.proofs.own.write_own.Statement.{statement}

@@ -1,5 +1,5 @@
 -- `list_answer` meets its contract: each place by its law in TagChecks. Assumes nothing.
-use Rattle.stream.proofs.laws.tag_list.TagChecks as steps
+use Rattle.stream.proofs.Laws.TagList.TagChecks as steps
 use borrow.Author.Rules.{rules}
 use Rattle.stream.proofs.tag_list.list_answer.Statement.{statement}
 use Rattle.stream.proofs.tag_list.list_answer.Tie as tie

@@ -1,5 +1,5 @@
 -- `order_answer` meets its contract: each place by its law in TagChecks. Assumes nothing.
-use Rattle.stream.proofs.laws.tag_list.TagChecks as steps
+use Rattle.stream.proofs.Laws.TagList.TagChecks as steps
 use borrow.Author.Rules.{rules}
 use Prim.Native.Nat.{◌-◌}
 use Rattle.stream.proofs.tag_list.order_answer.Statement.{statement}

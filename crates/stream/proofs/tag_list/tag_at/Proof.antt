@@ -1,6 +1,6 @@
 -- `tag_at` meets its contract: the tag stands in the list. Assumes nothing.
 use borrow.Author.Rules.{rules}
-use Rattle.stream.proofs.laws.tag_list.TagChecks as steps
+use Rattle.stream.proofs.Laws.TagList.TagChecks as steps
 use Rattle.stream.proofs.tag_list.tag_at.Statement.{statement}
 use Rattle.stream.proofs.tag_list.tag_at.Tie as tie
 

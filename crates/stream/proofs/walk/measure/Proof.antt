@@ -1,6 +1,6 @@
 -- `measure` meets its contract: each place by its law in Measuring. Assumes nothing.
-use Rattle.dataset.proofs.laws.extent.Outside.{inside-lies}
-use Rattle.stream.proofs.laws.walk.Measuring as steps
+use Rattle.dataset.proofs.Laws.Extent.Outside.{inside-lies}
+use Rattle.stream.proofs.Laws.Walk.Measuring as steps
 use borrow.Author.Rules.{rules}
 use Rattle.stream.proofs.walk.measure.Statement.{statement}
 use Rattle.stream.proofs.walk.measure.Tie as tie

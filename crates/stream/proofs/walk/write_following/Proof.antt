@@ -1,6 +1,6 @@
 -- `write_following` meets its contract: each place by its law in Following. Assumes nothing.
-use Rattle.dataset.proofs.laws.extent.Outside.{inside-lies}
-use Rattle.stream.proofs.laws.walk.Following as steps
+use Rattle.dataset.proofs.Laws.Extent.Outside.{inside-lies}
+use Rattle.stream.proofs.Laws.Walk.Following as steps
 use borrow.Author.Rules.{rules}
 use Rattle.stream.proofs.walk.write_following.Statement.{statement}
 use Rattle.stream.proofs.walk.write_following.Tie as tie

@@ -1,5 +1,5 @@
 -- `write_stream` meets its contract: each place by its law in StreamWalk. Assumes nothing.
-use Rattle.stream.proofs.laws.walk.StreamWalk as steps
+use Rattle.stream.proofs.Laws.Walk.StreamWalk as steps
 use borrow.Author.Rules.{rules}
 use Rattle.stream.proofs.walk.write_stream.Statement.{statement}
 use Rattle.stream.proofs.walk.write_stream.Tie as tie

@@ -1,5 +1,5 @@
 -- `nested_written` meets its contract. Assumes nothing.
-use Rattle.stream.proofs.laws.writer.WrittenArms as steps
+use Rattle.stream.proofs.Laws.Writer.WrittenArms as steps
 use borrow.Author.Rules.{rules}
 use Rattle.stream.proofs.writer.nested_written.Statement.{statement}
 use Rattle.stream.proofs.writer.nested_written.Tie as tie

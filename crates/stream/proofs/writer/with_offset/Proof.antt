@@ -1,5 +1,5 @@
 -- `with_offset` meets its contract. Assumes nothing.
-use Rattle.stream.proofs.laws.writer.WrittenArms as steps
+use Rattle.stream.proofs.Laws.Writer.WrittenArms as steps
 use borrow.Author.Rules.{rules}
 use Rattle.stream.proofs.writer.with_offset.Statement.{statement}
 use Rattle.stream.proofs.writer.with_offset.Tie as tie

@@ -1,5 +1,5 @@
 -- `write_fragment` meets its contract: each place by its law in FragmentsLoop. Assumes nothing.
-use Rattle.stream.proofs.laws.writer.FragmentsLoop as steps
+use Rattle.stream.proofs.Laws.Writer.FragmentsLoop as steps
 use borrow.Author.Rules.{rules}
 use Rattle.stream.proofs.writer.write_fragment.Statement.{statement}
 use Rattle.stream.proofs.writer.write_fragment.Tie as tie

@@ -1,5 +1,5 @@
 -- `write_fragments` meets its contract: each place by its law in FragmentsLoop. Assumes nothing.
-use Rattle.stream.proofs.laws.writer.FragmentsLoop as steps
+use Rattle.stream.proofs.Laws.Writer.FragmentsLoop as steps
 use borrow.Author.Rules.{rules}
 use Prim.Native.Nat.{◌-◌}
 use Rattle.stream.proofs.writer.write_fragments.Statement.{statement}

@@ -1,5 +1,5 @@
 use Rattle.std.proofs.Common.{arith, rules}
-use Rattle.digest.proofs.laws.running.WaitingArray.{accepts-within, accepts-past}
+use Rattle.digest.proofs.Laws.Running.WaitingArray.{accepts-within, accepts-past}
 use Rattle.digest.proofs.running.Running.accepts.Statement.{statement}
 use Rattle.digest.proofs.running.Running.accepts.Tie as tie
 

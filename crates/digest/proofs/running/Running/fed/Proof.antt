@@ -1,6 +1,6 @@
 use Rattle.std.proofs.Common.{◌-◌, arith, length-take, rules}
 use Rattle.digest.specs.Sha256.{sha256}
-use Rattle.digest.proofs.laws.running.WaitingArray.{fed-few, fed-many, part_to_end}
+use Rattle.digest.proofs.Laws.Running.WaitingArray.{fed-few, fed-many, part_to_end}
 use Rattle.digest.proofs.running.Running.fed.Statement.{statement}
 use Rattle.digest.proofs.running.Running.fed.Tie as tie
 

@@ -1,7 +1,7 @@
 use Rattle.std.proofs.Common.{sym, ◌∙◌, rules}
 use Rattle.digest.specs.Sha256.{sha256}
-use Rattle.digest.proofs.laws.running.WaitingArray.{ready}
-use Rattle.digest.proofs.laws.running.AcceptedCalls.{feeding-accepted, feeding-refused}
+use Rattle.digest.proofs.Laws.Running.WaitingArray.{ready}
+use Rattle.digest.proofs.Laws.Running.AcceptedCalls.{feeding-accepted, feeding-refused}
 use Rattle.digest.proofs.running.Running.feed.Statement.{statement}
 use Rattle.digest.proofs.running.Running.feed.Tie as tie
 

@@ -1,7 +1,7 @@
 use Rattle.std.proofs.Common.{replicate, sym, ◌∙◌, rules}
 use Rattle.digest.specs.Sha256.{sha256}
-use Rattle.digest.proofs.laws.running.WaitingArray.{ready}
-use Rattle.digest.proofs.laws.running.AcceptedCalls.{finishing-accepted, finishing-refused}
+use Rattle.digest.proofs.Laws.Running.WaitingArray.{ready}
+use Rattle.digest.proofs.Laws.Running.AcceptedCalls.{finishing-accepted, finishing-refused}
 use Rattle.digest.proofs.running.Running.finish.Statement.{statement}
 use Rattle.digest.proofs.running.Running.finish.Tie as tie
 

@@ -1,9 +1,9 @@
 use Rattle.std.proofs.Common.{◌≡◌, ℕ, List, ◌∷◌, ◌++◌, length, replicate, sym, ap, ◌∙◌, ap₂, arith, length-take-le, rules}
-use Rattle.digest.specs.Padding.{bigEndian, word_bytes, padding}
-use Rattle.digest.specs.Message.{afterBlocks}
+use Rattle.digest.specs.Padding.{big_endian, word_bytes, padding}
+use Rattle.digest.specs.Message.{after_blocks}
 use Rattle.digest.specs.Sha256.{compressed}
-use Rattle.digest.specs.Running.{finished, waitingBytes}
-use Rattle.digest.proofs.laws.padding.Padded.{Fills, fills}
+use Rattle.digest.specs.Running.{finished, waiting_bytes}
+use Rattle.digest.proofs.Laws.Padding.Padded.{Fills, fills}
 use Rattle.digest.proofs.running.Running.finished.Statement.{statement}
 use Rattle.digest.proofs.running.Running.finished.Tie as tie
 
@@ -45,8 +45,8 @@ returns c =
     let at-padded = c.before.before.before in
     let sized = at-padded.before in
     let self = sized.before.before.before.before.before.args.self in
-    let zeros = ap₂ (λ (k : ℕ) (z : List ℕ). waitingBytes self ++ (0x80 ∷ (replicate k 0 ++ z))) (filled sized).zeros sized.before.number-bytes.ensures in
-    c.word_Bytes.ensures ∙ ap (word_bytes bigEndian 32) (c.before.after-blocks.ensures ∙ ap (afterBlocks compressed self.words) (at-padded.padded.ensures ∙ zeros))
+    let zeros = ap₂ (λ (k : ℕ) (z : List ℕ). waiting_bytes self ++ (0x80 ∷ (replicate k 0 ++ z))) (filled sized).zeros sized.before.number-bytes.ensures in
+    c.word_Bytes.ensures ∙ ap (word_bytes big_endian 32) (c.before.after-blocks.ensures ∙ ap (after_blocks compressed self.words) (at-padded.padded.ensures ∙ zeros))
 
 pub finished-spec : {M : Type 1} → statement M
 finished-spec =

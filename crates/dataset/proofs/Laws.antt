@@ -1,0 +1,5 @@
+pub mod Extent
+pub mod Header
+pub mod Lookup
+pub mod Reading
+pub mod Seek

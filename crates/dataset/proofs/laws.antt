@@ -1,5 +1,0 @@
-pub mod extent
-pub mod header
-pub mod lookup
-pub mod reading
-pub mod seek

@@ -1,0 +1,3 @@
+pub mod Padding
+pub mod Running
+pub mod Sha256

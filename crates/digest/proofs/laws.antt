@@ -1,3 +1,0 @@
-pub mod padding
-pub mod running
-pub mod sha256

@@ -1,0 +1,4 @@
+pub mod PlaceValues
+pub mod Items
+pub mod Parameters
+pub mod Select

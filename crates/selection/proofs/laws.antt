@@ -1,4 +1,0 @@
-pub mod PlaceValues
-pub mod items
-pub mod parameters
-pub mod select

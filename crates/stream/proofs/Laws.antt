@@ -1,0 +1,6 @@
+pub mod Keep
+pub mod Listed
+pub mod Own
+pub mod TagList
+pub mod Walk
+pub mod Writer

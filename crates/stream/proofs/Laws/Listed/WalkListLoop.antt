@@ -1,0 +1,256 @@
+-- What one turn of the loop of `walk_list` does, with the facts of the place as premises. Assumes nothing.
+use Prim.Native.Nat.{ℕ, suc, ◌+◌, ◌-◌, ◌*◌, ◌/◌, ◌≤◌, ◌<◌}
+use mathlib.Core.Path.{◌≡◌, refl, sym, ap, ◌∙◌}
+use mathlib.Core.Bool.{Bool, true, false, true≢false}
+use mathlib.Core.List.{List, [], ◌∷◌}
+use native.Mathlib.Omega.{arith}
+use lib.Dec.{eqb, ltb}
+use lib.ListN.{length, drop}
+use lib.Seq.{sets, length-sets}
+use borrow.Author.Tests.{eq-eqb, ne_eqb, ltb-false, ltb-true, eqb-true}
+use Rattle.answer.specs.declared.Answer.{Answer}
+use Rattle.slices.specs.If.{if◌then◌else◌}
+use Rattle.answer.specs.Answer.{accepted, refused, ◌or_else◌}
+use Rattle.dataset.specs.Tree.{Element, Elements, none, tag_of}
+use Rattle.dataset.proofs.Laws.Reading.Lies.{ElementsLie}
+use Rattle.dataset.specs.Reading.{Reading, fault, read, ◌>>=◌, element, explicit, by_one, elements_at, one_at}
+use Rattle.dataset.specs.Lookup.{element_of}
+use Rattle.dataset.proofs.Laws.Reading.Bounded.{explicit-bounded}
+use Rattle.dataset.proofs.Laws.Reading.Within.{Within, elements-within}
+use Rattle.dataset.proofs.Laws.Reading.Guarantees.{holds_read, ElementsIn, elements-read}
+use Rattle.stream.specs.TagList.{tags_in, ascending_answer}
+use Rattle.stream.specs.Stream.{stream_of, listed_stream}
+use Rattle.stream.specs.UN.{is_un, holds_un}
+use Rattle.stream.specs.Listed.{element_answer, tags_answer}
+use Rattle.stream.specs.Inner.Keep.{keeps}
+use Rattle.stream.specs.Inner.Writer.{one_stream, one_walked, Walk}
+use Rattle.stream.specs.Inner.Listed.{listed_answer, ListedLeaves, ListWalk, next_listed, stopped_of, merged_of, ended_of, wanted_behind}
+use Rattle.dataset.specs.Place.{Lies}
+use Rattle.dataset.specs.Extent.{elements_in}
+use Rattle.dataset.specs.declared.extent.Extent.{Extent}
+use Rattle.stream.specs.declared.listed.Listed.{Listed}
+use Rattle.stream.specs.declared.keep.Keep.{Keep}
+use Rattle.stream.specs.declared.writer.OneWritten.{OneWritten}
+use Rattle.stream.specs.declared.writer.OneWritten.TheVariants as one
+use Rattle.stream.proofs.Laws.TagList.TagChecks.{tags-more, tags-none}
+use Rattle.stream.proofs.Laws.Listed.MergeArms.{still-wanted}
+use Rattle.stream.proofs.Laws.Listed.Finding.{find_absent, front-absent}
+use Rattle.stream.proofs.Laws.Listed.Merge.{Ascends, later, rest-ascends, On, in_front, on_none, on-before, on-absent, on-unknown, on-holds, on-found}
+use Rattle.stream.proofs.Laws.Writer.OneWalks as walk
+
+-- the tags of the list l from an index on
+abbrev from : List ℕ → ℕ → List ℕ
+from l index = tags_in (drop (4 * index) l)
+
+-- what holds of the state s where what is left of the data set starts at `at` and its tags at `least`
+pub record State (l : List ℕ) (at least : ℕ) (s : Listed) : Type 0 where
+  pub below : s.answer.length ≤ at
+  pub few : s.index ≤ length l / 4
+  pub order : Ascends s.index least (from l s.index)
+  pub fine : s.index < length l / 4 → s.answer.number ≡ 0
+  pub form : s.answer.number ≡ 0 → s.answer ≡ accepted s.answer.length
+
+pub record ListLoop (l d : List ℕ) (x : Extent) (xs₀ xs : List ℕ) (at least : ℕ) (s : Listed) (c : Keep) : Type 0 where
+  pub inside : at ≤ x.stop
+  pub within : x.stop ≤ length d
+  pub below : s.answer.length ≤ at
+  pub state : State l at least s
+  pub wanted : c ≡ next_listed (from l s.index)
+  pub on : On d (elements_in d x) (accepted 0) 0 (tags_in l) xs₀ (elements_at explicit d x.delimited x.left x.stop at least) s.answer s.index (from l s.index) xs
+  pub long : length xs ≡ length xs₀
+
+pub list-start : (l d : List ℕ) (x : Extent) (xs : List ℕ) (a : Answer) (c : Keep) → ascending_answer 0 0 (tags_in l) ≡ accepted 0 → Lies d x → a ≡ accepted 0
+    → c ≡ next_listed (from l 0) → ListLoop l d x xs xs x.from 0 (record { index = 0; answer = a }) c
+list-start l d x xs a c o lies e k =
+    rw e record {
+      inside = lies.order;
+      within = lies.inside;
+      below = omega arith;
+      state = record { below = omega arith; few = omega arith; order = o; fine = λ h. refl; form = λ h. refl };
+      wanted = k;
+      on = record { answers = refl; output = λ zs k. k };
+      long = refl;
+    }
+
+on-trans : (d : List ℕ) (p₀ : Reading Elements) (a₀ : Answer) (i₀ : ℕ) (t₀ xs₀ : List ℕ) (p : Reading Elements) (a : Answer) (i : ℕ) (t xs : List ℕ)
+    (q : Reading Elements) (b : Answer) (j : ℕ) (u ys : List ℕ) → On d p₀ a₀ i₀ t₀ xs₀ p a i t xs → On d p a i t xs q b j u ys → On d p₀ a₀ i₀ t₀ xs₀ q b j u ys
+on-trans d p₀ a₀ i₀ t₀ xs₀ p a i t xs q b j u ys f g =
+    record { answers = f.answers ∙ g.answers; output = λ zs k. f.output zs (g.output zs k) }
+
+-- ---- the state after one element more
+kept : (c : Keep) (e : Element) (d : List ℕ) → keeps c (tag_of e) ≡ true → one_stream (keeps c) (element e) d ≡ stream_of e d
+unfolding one_stream if◌then◌else◌
+kept c e d k = rw k
+
+unkept : (c : Keep) (e : Element) (d : List ℕ) → keeps c (tag_of e) ≡ false → one_stream (keeps c) (element e) d ≡ []
+unfolding one_stream if◌then◌else◌
+unkept c e d k = rw k
+
+-- a tag is left: the list is not at its end
+still : (l : List ℕ) (s : Listed) (wanted : ℕ) (tags : List ℕ) → from l s.index ≡ wanted ∷ tags → s.index < length l / 4
+still l s wanted tags t = go (ltb s.index (length l / 4)) refl
+  where
+    go : (b : Bool) → ltb s.index (length l / 4) ≡ b → s.index < length l / 4
+    go true e = ltb-true s.index (length l / 4) e
+    go false e = let n = tags-none l s.index (ltb-false s.index (length l / 4) e) in absurd (true≢false (cc))
+
+-- e is what stands at `at`, q what is read after it, and s' the state then
+module _ (l d xs ys : List ℕ) (left at next least past : ℕ) (c : Keep) (s s' : Listed) (e : Element) (q : Reading Elements) (i : State l at least s) (a : at ≤ next) (b : past ≤ next)
+    (m : past ≡ s.answer.length + length (one_stream (keeps c) (element e) d)) (y : ys ≡ sets xs s.answer.length (one_stream (keeps c) (element e) d))
+    (lie : (es : Elements) (n : ℕ) → q ≡ read es n → ElementsLie es d left (tag_of e + 1) next n) where
+  record Turn : Type 0 where
+    pub on : On d (q >>= in_front e) s.answer s.index (from l s.index) xs q s'.answer s'.index (from l s'.index) ys
+    pub state : State l next (tag_of e + 1) s'
+
+  same-output : keeps c (tag_of e) ≡ false → ys ≡ xs
+  same-output k = y ∙ rw (unkept c e d k)
+
+  -- the state stays
+  stays : s' ≡ s → ys ≡ xs → Ascends s.index (tag_of e + 1) (from l s.index)
+      → On d (q >>= in_front e) s.answer s.index (from l s.index) xs q s.answer s.index (from l s.index) xs → Turn
+  stays z w o g =
+      record {
+        on = rw (z, w) g;
+        state = rw z record { below = omega (arith, i.below); few = i.few; order = o; fine = i.fine; form = i.form };
+      }
+
+  -- a refusal
+  stops : (number : ℕ) → (number ≡ 0 → ⊥) → s' ≡ stopped_of (length l / 4) number s.index
+      → On d (q >>= in_front e) s.answer s.index (from l s.index) xs q (refused number s.index) (length l / 4) [] ys → Turn
+  unfolding ascending_answer
+  stops number k z g =
+      let t = tags-none l (length l / 4) (omega arith) in
+      record {
+        on = rw (z, t) g;
+        state = rw z record { below = omega arith; few = omega arith; order = rw t; fine = λ h. absurd (omega arith); form = λ h. absurd (k h) };
+      }
+
+  turn : (tags : List ℕ) → from l s.index ≡ tags → c ≡ next_listed tags → s' ≡ merged_of (length l / 4) c s (tag_of e) (is_un e) (holds_un e) past → Turn
+  unfolding next_listed merged_of ascending_answer if◌then◌else◌
+  turn [] t k z = stays (rw k at z) (same-output (rw k)) (rw t) (rw t (on_none d q e s.answer s.index xs))
+  turn (wanted ∷ tags) t k z = go (ltb (tag_of e) wanted) (ltb wanted (tag_of e)) (is_un e) (holds_un e) refl refl refl refl (rw k at z)
+    where
+      here : s.index < length l / 4
+      here = still l s wanted tags t
+
+      good : s.answer ≡ accepted s.answer.length
+      good = i.form (i.fine here)
+
+      o : Ascends s.index least (wanted ∷ tags)
+      o = rw t at i.order
+
+      rest : from l (s.index + 1) ≡ tags
+      rest = let n = tags-more l s.index here in cc
+
+      go : (x₁ x₂ x₃ x₄ : Bool) → ltb (tag_of e) wanted ≡ x₁ → ltb wanted (tag_of e) ≡ x₂ → is_un e ≡ x₃ → holds_un e ≡ x₄
+          → s' ≡ (if x₁ then s else if x₂ then stopped_of (length l / 4) 13 s.index else if x₃ then stopped_of (length l / 4) 14 s.index
+          else if x₄ then stopped_of (length l / 4) 15 s.index else record { index = s.index + 1; answer = accepted past }) → Turn
+      go true x₂ x₃ x₄ e₁ e₂ e₃ e₄ z =
+          let h = ltb-true (tag_of e) wanted e₁ in
+          let n = later s.index least (tag_of e + 1) wanted tags o (omega arith) in
+          stays z (same-output (rw k (ne_eqb (tag_of e) wanted (λ x. omega arith)))) (rw t n) (rw t (on-before d q e s.answer s.index (tag_of e + 1) (wanted ∷ tags) xs n (omega arith)))
+      go false true x₃ x₄ e₁ e₂ e₃ e₄ z =
+          let h = ltb-true wanted (tag_of e) e₂ in
+          stops 13 (λ x. omega arith) z
+          (rw (t, good) (on-absent d q e s.answer.length s.index (length l / 4) wanted tags xs ys λ es n x.
+          front-absent wanted e es h (find_absent wanted es d left (tag_of e + 1) next n (lie es n x) (omega arith))))
+      go false false true x₄ e₁ e₂ e₃ e₄ z =
+          let h : tag_of e ≡ wanted = omega (arith, ltb-false (tag_of e) wanted e₁, ltb-false wanted (tag_of e) e₂) in
+          stops 14 (λ x. omega arith) z (rw (t, good) (on-unknown d q e s.answer.length s.index (length l / 4) wanted tags xs ys h e₃))
+      go false false false true e₁ e₂ e₃ e₄ z =
+          let h : tag_of e ≡ wanted = omega (arith, ltb-false (tag_of e) wanted e₁, ltb-false wanted (tag_of e) e₂) in
+          stops 15 (λ x. omega arith) z (rw (t, good) (on-holds d q e s.answer.length s.index (length l / 4) wanted tags xs ys h e₃ e₄))
+      go false false false false e₁ e₂ e₃ e₄ z =
+          let h : tag_of e ≡ wanted = omega (arith, ltb-false (tag_of e) wanted e₁, ltb-false wanted (tag_of e) e₂) in
+          let w = kept c e d (rw k (eq-eqb (tag_of e) wanted h)) in
+          record {
+            on = rw (z, t, rest, good)
+                (on-found d q e s.answer.length s.index least wanted tags xs ys o h e₃ e₄ past (m ∙ rw w) (y ∙ rw w));
+            state = rw z record {
+              below = b;
+              few = omega (arith, here);
+              order = rw (rest, h) (rest-ascends s.index least wanted tags o);
+              fine = λ x. refl;
+              form = λ x. refl;
+            };
+          }
+
+turned : (l d xs ys : List ℕ) (left at next least past : ℕ) (c : Keep) (s s' : Listed) (e : Element) (tag : ℕ) (unknown holds : Bool) (q : Reading Elements) → State l at least s → at < next
+    → past ≤ s.answer.length + (next - at) → past ≡ s.answer.length + length (one_stream (keeps c) (element e) d) → ys ≡ sets xs s.answer.length (one_stream (keeps c) (element e) d)
+    → tag_of e ≡ tag → is_un e ≡ unknown → holds_un e ≡ holds → c ≡ next_listed (from l s.index) → s' ≡ merged_of (length l / 4) c s tag unknown holds past
+    → ((es : Elements) (n : ℕ) → q ≡ read es n → ElementsLie es d left (tag + 1) next n)
+    → On d (q >>= in_front e) s.answer s.index (from l s.index) xs q s'.answer s'.index (from l s'.index) ys × State l next (tag + 1) s'
+turned l d xs ys left at next least past c s s' e tag unknown holds q i a b m y f g h k z lie =
+    let t = turn l d xs ys left at next least past c s s' e q i (omega arith) (omega (arith, i.below)) m y (rw f lie) (from l s.index) refl k (rw (f, g, h) z) in
+    (t.on, rw f at t.state)
+
+-- a fault has length 0
+fault-length : (d : List ℕ) (x : Extent) (at least : ℕ) (f : Answer) → at ≤ x.stop → elements_at explicit d x.delimited x.left x.stop at least ≡ fault f → f.length ≡ 0
+unfolding elements_at
+fault-length d x at least f h e =
+    let w : Within {A = Elements} at x.stop (fault f) = rw e at (elements-within explicit explicit-bounded (suc (x.stop - at)) d x.delimited x.left x.stop at least h (omega arith)) in
+    w.nothing
+
+-- ---- a turn of the loop: r is what the walk over one element answers, and ys what it leaves
+module _ (l d : List ℕ) (x : Extent) (xs₀ xs : List ℕ) (at least : ℕ) (s : Listed) (c : Keep) (i : ListLoop l d x xs₀ xs at least s c) (r : OneWritten) (ys : List ℕ)
+    (w : Walk (one_walked (keeps c)) (one_stream (keeps c)) (one_at explicit d x.delimited x.left x.stop at least) d s.answer.length r xs ys) where
+  ended-length : (tags : List ℕ) → (ended_of tags s).length ≤ at
+  unfolding ended_of
+  ended-length [] = i.below
+  ended-length (wanted ∷ tags) = omega arith
+
+  pub list-refused : (f : Answer) → r ≡ one.Refused f → ListWalk l d x f xs₀ ys
+  unfolding listed_answer ListedLeaves
+  list-refused f q =
+      let e = walk.one-fault (keeps c) d x.delimited x.left x.stop at least s.answer.length r xs ys i.inside w f q in
+      record { answers = sym (i.on.answers ∙ rw e); output = i.on.output ys (rw e tt); short = omega (arith, fault-length d x at least f i.inside e) }
+
+  ended_is : (tags : List ℕ) → from l s.index ≡ tags → (next : ℕ) → ys ≡ xs
+      → (ended_of tags s ≡ listed_answer s.answer s.index tags d (read none next)) × ListedLeaves s.answer s.index tags d (read none next) xs ys
+  unfolding ended_of listed_answer ListedLeaves tags_answer listed_stream element_answer element_of ◌or_else◌ if◌then◌else◌
+  ended_is [] t next y = (go (eqb s.answer.number 0) refl, λ h. y)
+    where
+      go : (b : Bool) → eqb s.answer.number 0 ≡ b → s.answer ≡ (if b then accepted (s.answer.length + 0) else s.answer)
+      go true e = let z : s.answer.length + 0 ≡ s.answer.length = omega arith in rw z (i.state.form (eqb-true s.answer.number 0 e))
+      go false e = refl
+  ended_is (wanted ∷ tags) t next y = let n = i.state.fine (still l s wanted tags t) in (rw n, λ h. absurd (thirteen (rw n at h)))
+    where
+      thirteen : ◌≡◌ {A = ℕ} 13 0 → ⊥
+      thirteen h = omega arith
+
+  pub list-end : (next : ℕ) (a : Answer) → r ≡ one.End next → a ≡ ended_of (from l s.index) s → ListWalk l d x a xs₀ ys
+  unfolding by_one
+  list-end next a q z =
+      let e = walk.one_end (keeps c) d x.delimited x.left x.stop at least s.answer.length r xs ys i.inside w next q in
+      let y = walk.end-output (keeps c) d x.delimited x.left x.stop at least s.answer.length r xs ys i.inside w next q in
+      let g = ended_is (from l s.index) refl next y in
+      record { answers = z ∙ g.0 ∙ sym (i.on.answers ∙ rw e); output = i.on.output ys (rw e g.1); short = rw z (omega (arith, ended-length (from l s.index), i.inside, i.within)) }
+
+  module _ (tag : ℕ) (unknown holds : Bool) (next past : ℕ) (q : r ≡ one.Element tag unknown holds next past) where
+    pub list-less : x.stop - next < x.stop - at
+    list-less =
+        let lies = walk.one_lies (keeps c) d x.delimited x.left x.stop at least s.answer.length r xs ys i.inside w tag unknown holds next past q i.within in
+        omega (arith, lies.past, lies.inside)
+
+    pub list-again : (s' : Listed) (c' : Keep) → s' ≡ merged_of (length l / 4) c s tag unknown holds past → c' ≡ wanted_behind c tag (from l s'.index)
+        → ListLoop l d x xs₀ ys next (tag + 1) s' c'
+    list-again s' c' z j =
+        let e = walk.one_found (keeps c) d x.delimited x.left x.stop at least s.answer.length r xs ys i.inside w tag unknown holds next past q in
+        let lies = walk.one_lies (keeps c) d x.delimited x.left x.stop at least s.answer.length r xs ys i.inside w tag unknown holds next past q i.within in
+        let n = walk.one-next (keeps c) d x.delimited x.left x.stop at least s.answer.length r xs ys i.inside w tag unknown holds next past q in
+        let y = walk.one-output (keeps c) d x.delimited x.left x.stop at least s.answer.length r xs ys i.inside w tag unknown holds next past q in
+        let b = walk.one_below (keeps c) d x.delimited x.left x.stop at least s.answer.length r xs ys i.inside w tag unknown holds next past q i.within in
+        let t = turned l d xs ys x.left at next least past c s s' e.what tag unknown holds (elements_at explicit d x.delimited x.left x.stop next (tag + 1)) i.state lies.past
+        b e.passes y e.tagged e.unknowns e.holding i.wanted z
+        (λ es m h. (holds_read (ElementsIn d x.delimited x.left x.stop (tag + 1) next) (elements_at explicit d x.delimited x.left x.stop next (tag + 1)) es m
+        (elements-read d x.left x.stop next i.within x.delimited (tag + 1)) h).tree) in
+        record {
+          inside = lies.inside;
+          within = i.within;
+          below = t.1.below;
+          state = t.1;
+          wanted = still-wanted l (length l / 4) c c' s s' tag unknown holds past i.wanted z j;
+          on = on-trans d (elements_in d x) (accepted 0) 0 (tags_in l) xs₀ (elements_at explicit d x.delimited x.left x.stop at least) s.answer s.index (from l s.index) xs
+              (elements_at explicit d x.delimited x.left x.stop next (tag + 1)) s'.answer s'.index (from l s'.index) ys i.on (rw n t.0);
+          long = ap length y ∙ length-sets xs s.answer.length (one_stream (keeps c) (element e.what) d) ∙ i.long;
+        }
