@@ -1,9 +1,10 @@
+#![tactic(auto)]
 // The answer that every call gives, and that travels whole from where it is made to the caller.
 ghost use Rattle.std.specs.Prelude.{◌≡◌};
 ghost use Rattle.answer.specs.Answer as Spec;
 
 // The number, the position it speaks of, and the length of the stream.
-#[derive(Drop)]
+#[derive(Clone, Copy)]
 pub struct Answer {
     pub number: u8,
     pub position: usize,

@@ -1,3 +1,4 @@
+#![tactic(auto)]
 // What the cases of mac_cases call, and what is printed of it. Every function prints and gives nothing back, so that there is nothing to
 // promise of it: what it prints is tested by the program.
 //

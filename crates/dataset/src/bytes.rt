@@ -3,7 +3,7 @@ ghost use Rattle.std.specs.Prelude.{◌≡◌, ◌+◌, ◌<◌, ◌≤◌, leng
 ghost use Rattle.dataset.specs.Bytes.{num16, num32, tag_at, tag_in, tag_case, vr_at};
 
 // The tag at a place, or none.
-#[derive(Drop)]
+#[derive(Clone, Copy)]
 pub enum TagIn {
     Absent,
     Tag(u32),

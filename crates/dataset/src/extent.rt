@@ -7,7 +7,7 @@ use crate::{header, reading};
 use answer::Answer;
 
 // From `from` up to `stop`, or to a delimiter before it; `left` levels of sequences may follow.
-#[derive(Drop)]
+#[derive(Clone, Copy)]
 pub struct Extent {
     pub delimited: bool,
     pub left: u32,
@@ -16,7 +16,7 @@ pub struct Extent {
 }
 
 // What stands in an item's place.
-#[derive(Drop)]
+#[derive(Clone, Copy)]
 pub enum OpenedItem {
     // the first fault
     Refused(Answer),

@@ -8,7 +8,7 @@ use crate::{bytes, tags, vr};
 use answer::Answer;
 
 // What stands in an element's place.
-#[derive(Drop)]
+#[derive(Clone, Copy)]
 pub enum ElementHeader {
     // refused, with this number, at this header
     Refused {
@@ -39,7 +39,7 @@ pub enum ElementHeader {
 }
 
 // What stands in an item's or a fragment's place.
-#[derive(Drop)]
+#[derive(Clone, Copy)]
 pub enum ItemHeader {
     // refused, with this number, at this header
     Refused {

@@ -1,3 +1,4 @@
+#![tactic(auto)]
 // Data sets in Explicit VR Little Endian (PS3.5): tags, headers, the reading, extents, the lookup, what stands under two tags.
 pub mod bytes;
 pub mod extent;

@@ -8,7 +8,7 @@ use crate::reading::OneOutcome;
 use answer::Answer;
 
 // The reading's answer, whether the tag stands there, and where its value lies.
-#[derive(Drop)]
+#[derive(Clone, Copy)]
 pub struct Found {
     pub answer: Answer,
     pub present: bool,

@@ -29,14 +29,14 @@ pub fn deeper(left: u32) -> u32
 }
 
 // What a reader answers: the first fault, or the offset past what it read.
-#[derive(Drop)]
+#[derive(Clone, Copy)]
 pub(crate) enum Outcome {
     Refused(Answer),
     Next(usize),
 }
 
 // What is read in an element's place.
-#[derive(Drop)]
+#[derive(Clone, Copy)]
 pub enum OneOutcome {
     // the first fault
     Refused(Answer),

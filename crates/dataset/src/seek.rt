@@ -10,7 +10,7 @@ use crate::{extent, reading, vr};
 use answer::Answer;
 
 // What stands under a tag.
-#[derive(Drop)]
+#[derive(Clone, Copy)]
 pub enum Place {
     Absent,
     // a value that is not looked into, from start to end
@@ -22,7 +22,7 @@ pub enum Place {
 }
 
 // What stands under two tags, and the offset past the data set; or the first fault.
-#[derive(Drop)]
+#[derive(Clone, Copy)]
 pub enum Sought {
     Refused(Answer),
     Past {

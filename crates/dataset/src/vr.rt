@@ -16,7 +16,7 @@ pub const UN: u16 = 0x554E;
 
 pub const US: u16 = 0x5553;
 
-#[derive(Drop)]
+#[derive(Clone, Copy)]
 pub(crate) enum Form {
     // a two-byte length
     Short,

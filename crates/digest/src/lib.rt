@@ -1,3 +1,4 @@
+#![tactic(auto)]
 // SHA-256 of FIPS 180-4, running and of a whole message.
 mod bytes;
 pub mod message;

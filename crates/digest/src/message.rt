@@ -6,7 +6,7 @@ ghost use Rattle.digest.specs.Message as Message;
 use crate::running::Running;
 use answer::Answer;
 
-#[derive(Drop)]
+#[derive(Clone, Copy)]
 pub struct Hashed {
     pub answer: Answer,
     pub digest: [u8; 32],

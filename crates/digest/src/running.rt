@@ -14,7 +14,7 @@ use answer::Answer;
 pub const LIMIT: u64 = 2305843009213693951;
 
 // Eight words, the bytes that wait for the rest of their block, their count, and the total of all bytes.
-#[derive(Drop)]
+#[derive(Clone, Copy)]
 pub struct Running {
     pub words: [u32; 8],
     pub waiting: [u8; 64],
@@ -23,14 +23,14 @@ pub struct Running {
 }
 
 // What feeding gives back: the answer, and the next running digest.
-#[derive(Drop)]
+#[derive(Clone, Copy)]
 pub struct Fed {
     pub answer: Answer,
     pub running: Running,
 }
 
 // What finishing gives back: the answer, the digest, and the running digest as it was.
-#[derive(Drop)]
+#[derive(Clone, Copy)]
 pub struct Finished {
     pub answer: Answer,
     pub digest: [u8; 32],

@@ -24,7 +24,7 @@ pub(crate) const START: [u32; 8] = [
     0x6a09e667, 0xbb67ae85, 0x3c6ef372, 0xa54ff53a, 0x510e527f, 0x9b05688c, 0x1f83d9ab, 0x5be0cd19,
 ];
 
-#[derive(Drop)]
+#[derive(Clone, Copy)]
 pub(crate) struct Working {
     pub a: u32,
     pub b: u32,

@@ -1,3 +1,4 @@
+#![tactic(auto)]
 // Runs published vectors of SHA-256, whole and in parts, and every kind of refusal with its accepted neighbour.
 mod parts;
 mod print;

@@ -1,3 +1,4 @@
+#![tactic(auto)]
 // The MAC of DICOM C.12.1.1.3: list mode and signature mode.
 //
 // list_mode, signature_mode  the calls: what is signed, and where it lies; stream::walk measures and writes it

@@ -2,7 +2,7 @@
 ghost use Rattle.std.specs.Prelude.{◌≡◌};
 ghost use Rattle.digest.specs.Message.{limit};
 ghost use Rattle.mac.specs.Result.{Streamed, CheckedAs};
-ghost use Rattle.mac.specs.ListMode.{measure, stream_call, check_call, result};
+ghost use Rattle.mac.specs.ListMode.{measure, stream_call, check_call, result as result_of};
 ghost use Rattle.mac.specs.Inner.Calls.{list_call, CallAnswered};
 
 use crate::verdict;
@@ -15,7 +15,7 @@ use stream::walk::SignatureItem;
 
 // Measures the stream of a list in a data set: the answer of a call for the stream with room enough. Nothing is written.
 pub fn list_measure(list: &[u8], d: &[u8]) -> Answer
-    ensures* { λ r. ⌜ r ≡ measure list.now d.now ⌝ }
+    ensures { result ≡ measure list.now d.now }
 {
     let size = reading::size_answer(d);
     if size.number != 0 {
@@ -27,7 +27,7 @@ pub fn list_measure(list: &[u8], d: &[u8]) -> Answer
 
 // The answer of a call, by the length of its expected digest; where it is accepted the stream is written.
 fn list_call(list: &[u8], d: &[u8], expected: ExpectedLength, out: &mut [u8]) -> Answer
-    ensures* { λ r. ⌜ CallAnswered (list_call list.now d.now out.old) expected limit out.old r out.new ⌝ }
+    ensures { CallAnswered (list_call list.now d.now out.old) expected limit out.old result out.new }
 {
     let size = reading::size_answer(d);
     if size.number != 0 {
@@ -40,14 +40,14 @@ fn list_call(list: &[u8], d: &[u8], expected: ExpectedLength, out: &mut [u8]) ->
 
 // The stream of a list in a data set, into the output.
 pub fn list_stream(list: &[u8], d: &[u8], out: &mut [u8]) -> Answer
-    ensures* { λ r. ⌜ Streamed (result (stream_call list.now d.now out.old)) d.now out.old r out.new ⌝ }
+    ensures { Streamed (result_of (stream_call list.now d.now out.old)) d.now out.old result out.new }
 {
     list_call(list, d, ExpectedLength::Absent, out)
 }
 
 // The check of the stream's digest: the stream is written into the work buffer.
 pub fn list_check(list: &[u8], d: &[u8], expected: &[u8], work: &mut [u8]) -> Checked
-    ensures* { λ r. ⌜ CheckedAs (result (check_call list.now d.now expected.now work.old)) d.now work.old r work.new ⌝ }
+    ensures { CheckedAs (result_of (check_call list.now d.now expected.now work.old)) d.now work.old result work.new }
 {
     let answer = list_call(list, d, ExpectedLength::Length(expected.len()), work);
     verdict::check_of(Algorithm::Sha256, answer, expected, work)

@@ -1,7 +1,7 @@
 // Signature mode: the stream of a signature in the data set, its measuring, and the check of its digest.
 ghost use Rattle.std.specs.Prelude.{◌≡◌, ◌≤◌, length};
 ghost use Rattle.mac.specs.Result.{Streamed, CheckedAs};
-ghost use Rattle.mac.specs.SignatureMode.{measure, stream_call, check_call, result};
+ghost use Rattle.mac.specs.SignatureMode.{measure, stream_call, check_call, result as result_of};
 ghost use Rattle.mac.specs.Inner.Calls.{SignatureSelected, SelectedWritten};
 
 use crate::verdict;
@@ -15,7 +15,7 @@ use stream::walk::SignatureItem;
 
 // What is selected in a whole data set; or 1 to 8, 18 to 23.
 fn select_whole(uid: &[u8], which: Signature, d: &[u8]) -> Selection
-    ensures* { λ r. ⌜ SignatureSelected uid.now which d.now r ⌝ }
+    ensures { SignatureSelected uid.now which d.now result }
 {
     let size = reading::size_answer(d);
     if size.number != 0 {
@@ -27,7 +27,7 @@ fn select_whole(uid: &[u8], which: Signature, d: &[u8]) -> Selection
 
 // Measures the stream of a signature in a data set: the answer of a call for the stream with room enough. Nothing is written.
 pub fn signature_measure(uid: &[u8], which: Signature, d: &[u8]) -> Answer
-    ensures* { λ r. ⌜ r ≡ measure uid.now which d.now ⌝ }
+    ensures { result ≡ measure uid.now which d.now }
 {
     match select_whole(uid, which, d) {
         Selection::Refused(answer) => answer,
@@ -45,7 +45,7 @@ pub fn signature_measure(uid: &[u8], which: Signature, d: &[u8]) -> Answer
 // Writes the stream of what is selected, with 9 by the length of the expected digest.
 fn write_selected(d: &[u8], selected: Selected, expected: ExpectedLength, out: &mut [u8]) -> Answer
     requires { (selected.start ≤ selected.end) × (selected.end ≤ length d.now) }
-    ensures* { λ r. ⌜ SelectedWritten d.now selected expected out.old r out.new ⌝ }
+    ensures { SelectedWritten d.now selected expected out.old result out.new }
 {
     let start = selected.start;
     let end = selected.end;
@@ -59,7 +59,7 @@ fn write_selected(d: &[u8], selected: Selected, expected: ExpectedLength, out: &
 
 // The stream of a signature in a data set, into the output: with the UID of the data set's transfer syntax.
 pub fn signature_stream(uid: &[u8], which: Signature, d: &[u8], out: &mut [u8]) -> Answer
-    ensures* { λ r. ⌜ Streamed (result (stream_call uid.now which d.now out.old)) d.now out.old r out.new ⌝ }
+    ensures { Streamed (result_of (stream_call uid.now which d.now out.old)) d.now out.old result out.new }
 {
     match select_whole(uid, which, d) {
         Selection::Refused(answer) => answer,
@@ -75,7 +75,7 @@ pub fn signature_check(
     expected: &[u8],
     work: &mut [u8],
 ) -> Checked
-    ensures* { λ r. ⌜ CheckedAs (result (check_call uid.now which d.now expected.now work.old)) d.now work.old r work.new ⌝ }
+    ensures { CheckedAs (result_of (check_call uid.now which d.now expected.now work.old)) d.now work.old result work.new }
 {
     match select_whole(uid, which, d) {
         Selection::Refused(answer) => verdict::refused(answer),

@@ -11,7 +11,7 @@ use digest::message::Hashed;
 use selection::select::Algorithm;
 
 // Whether the digest of the stream is the expected one; a check that is refused says neither of the two.
-#[derive(Drop)]
+#[derive(Clone, Copy)]
 pub enum Verdict {
     Neither,
     Same,
@@ -19,14 +19,14 @@ pub enum Verdict {
 }
 
 // What a check gives back.
-#[derive(Drop)]
+#[derive(Clone, Copy)]
 pub struct Checked {
     pub answer: Answer,
     pub verdict: Verdict,
 }
 
 // The length of the expected digest; a call for the stream has none.
-#[derive(Drop)]
+#[derive(Clone, Copy)]
 pub(crate) enum ExpectedLength {
     Absent,
     Length(usize),

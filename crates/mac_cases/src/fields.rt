@@ -59,7 +59,7 @@ pub(crate) fn rest(line: &[u8]) -> &[u8] {
 }
 
 // A number of 64 bits.
-#[derive(Drop)]
+#[derive(Clone, Copy)]
 pub(crate) enum Number {
     Good(usize),
     Bad,

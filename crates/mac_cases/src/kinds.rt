@@ -4,7 +4,7 @@ use crate::{bytes, fields, mode_kinds};
 use case_calls::{frame_kind, print, reading_kinds};
 
 // What a case asks for: of its DATA or INPUT, or a call of a mode, or to measure one.
-#[derive(Drop)]
+#[derive(Clone, Copy)]
 enum Asked {
     Reading,
     One(u32),

@@ -1,3 +1,4 @@
+#![tactic(auto)]
 // Runs the cases of standard input and prints a line for each. A case is a line `NAME KIND ARGS`, its fields parted by single
 // spaces; an empty line and one that starts with # print nothing; a line that is not understood prints `NAME ?`. Of a longer input
 // than 2,228,223 bytes nothing is run: it prints the one line `input over 2228223 bytes`.

@@ -11,7 +11,7 @@ use case_calls::calls;
 use selection::select::Signature;
 
 // Which signature: none, or a number in decimal.
-#[derive(Drop)]
+#[derive(Clone, Copy)]
 enum Which {
     Good(Signature),
     Bad,
@@ -49,7 +49,7 @@ fn rest_where(has: bool, args: &[u8]) -> &[u8] {
 
 // A call: of which mode, stream or check, the bytes of output room or work buffer, where the bytes of expected digest, of list or UID and
 // of data set end in the room of the fields, and which signature.
-#[derive(Drop)]
+#[derive(Clone, Copy)]
 struct Call {
     signature: bool,
     check: bool,

@@ -10,7 +10,7 @@ use mac::list_mode;
 const INPUT_LIMIT: usize = 65536;
 
 // A bad frame, or where its list ends.
-#[derive(Drop)]
+#[derive(Clone, Copy)]
 pub(crate) enum Frame {
     Bad,
     ListEnds(usize),

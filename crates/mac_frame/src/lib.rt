@@ -1,3 +1,4 @@
+#![tactic(auto)]
 // The stream program, on slices.
 pub mod frame;
 mod text;

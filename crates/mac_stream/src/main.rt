@@ -1,3 +1,4 @@
+#![tactic(auto)]
 // The stream program: reads a frame from standard input and prints the answer of list mode, and the stream in hex.
 use mac_frame::frame;
 

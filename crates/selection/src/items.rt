@@ -11,14 +11,14 @@ use dataset::seek::{Place, Sought};
 use dataset::{extent, seek, tags, vr};
 
 // By what an item of a sequence is found: its number from 0, or its MAC ID Number, the bytes of the data set from start to end.
-#[derive(Drop)]
+#[derive(Clone, Copy)]
 pub(crate) enum ItemKey {
     Number(u64),
     MacId { start: usize, end: usize },
 }
 
 // No such item; or the item's data set, and what stands in it under (0400,0005) and (0400,0020).
-#[derive(Drop)]
+#[derive(Clone, Copy)]
 pub(crate) enum FoundItem {
     Absent,
     Item {

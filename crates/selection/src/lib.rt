@@ -1,3 +1,4 @@
+#![tactic(auto)]
 // Which signature item, parameters item, algorithm and list signature mode takes: 18 to 23.
 //
 // select      the caller's choice, and what is selected: 18, 19, 20

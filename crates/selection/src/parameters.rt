@@ -13,7 +13,7 @@ use dataset::seek::{Place, Sought};
 use dataset::{seek, tags, vr};
 
 // The algorithm that a signature names; or none of them.
-#[derive(Drop)]
+#[derive(Clone, Copy)]
 pub(crate) enum FoundAlgorithm {
     Unknown,
     Named(Algorithm),

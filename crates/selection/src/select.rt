@@ -15,21 +15,21 @@ use dataset::seek::{Place, Sought};
 use dataset::{seek, tags};
 
 // Which signature: none is named, or by its number from 0.
-#[derive(Drop)]
+#[derive(Clone, Copy)]
 pub enum Signature {
     Unnamed,
     Number(u64),
 }
 
 // The algorithms that a signature may name.
-#[derive(Drop)]
+#[derive(Clone, Copy)]
 pub enum Algorithm {
     Sha256,
 }
 
 // What is selected: the list, the bytes of the data set from start to end; the algorithm; the data set that is signed, and that of the
 // signature item.
-#[derive(Drop)]
+#[derive(Clone, Copy)]
 pub struct Selected {
     pub start: usize,
     pub end: usize,
@@ -39,7 +39,7 @@ pub struct Selected {
 }
 
 // A refusal, or what is selected.
-#[derive(Drop)]
+#[derive(Clone, Copy)]
 pub enum Selection {
     Refused(Answer),
     Selected(Selected),

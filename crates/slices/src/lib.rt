@@ -1,3 +1,4 @@
+#![tactic(auto)]
 // What every crate does with bytes: copy, compare, test.
 ghost use Rattle.std.specs.Prelude.{◌≡◌, ◌<◌, ◌≤◌};
 ghost use Rattle.std.proofs.lemmas.List.Edits.{sets};

@@ -7,7 +7,7 @@ use crate::tag_list;
 use dataset::header::ElementHeader;
 
 // All that are not barred (in an item), those of one tag, or none.
-#[derive(Drop)]
+#[derive(Clone, Copy)]
 pub(crate) enum Keep {
     Unbarred,
     Only(u32),

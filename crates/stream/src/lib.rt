@@ -1,3 +1,4 @@
+#![tactic(auto)]
 // The stream of DICOM C.12.1.1.3, by where what is signed lies: a list of tags, the extent of a data set, and perhaps a signature item.
 //
 // walk       measuring, which is the list and a first walk; then 16 and the walk that writes

@@ -13,7 +13,7 @@ use dataset::extent::Extent;
 
 // How far list and data set are merged: the index of the tag that is wanted next; and the first of 13, 14, 15, or the length of the
 // stream so far.
-#[derive(Drop)]
+#[derive(Clone, Copy)]
 pub(crate) struct Listed {
     pub index: usize,
     pub answer: Answer,

@@ -15,7 +15,7 @@ use dataset::extent;
 use dataset::extent::Extent;
 
 // The signature item, whose own elements follow the listed ones; list mode has none.
-#[derive(Drop)]
+#[derive(Clone, Copy)]
 pub enum SignatureItem {
     Absent,
     Item(Extent),

@@ -16,7 +16,7 @@ use dataset::header::{ElementHeader, ItemHeader};
 use dataset::{header, reading, vr};
 
 // What is read in the place of elements, items or fragments.
-#[derive(Drop)]
+#[derive(Clone, Copy)]
 pub(crate) enum Written {
     // the first fault
     Refused(Answer),
@@ -29,7 +29,7 @@ pub(crate) enum Written {
 }
 
 // What is read in an element's place.
-#[derive(Drop)]
+#[derive(Clone, Copy)]
 pub(crate) enum OneWritten {
     // the first fault
     Refused(Answer),

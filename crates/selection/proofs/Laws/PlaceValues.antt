@@ -9,7 +9,6 @@ use mathlib.Core.Option as Opt
 use native.Mathlib.Omega.{arith}
 use lib.Dec.{eqb}
 use lib.ListN.{length, take, drop}
-use types.Run.{OneOf}
 use denote.Enum.Declared.{tag_of}
 use Rattle.slices.specs.If.{if◌then◌else◌}
 use Rattle.slices.specs.Lists.{between}
@@ -41,16 +40,13 @@ never e = absurd (omega arith)
 
 -- what the `else` of a `let .. else` for a value has of the place
 abbrev pub NoValue : Place → Type 0
-NoValue p = OneOf (0 ∷ 2 ∷ 3 ∷ []) (tag_of enum.the_type p)
-
-not-value : (vr start end : ℕ) → NoValue (place.Value vr start end) → ◌≡◌ {A = ℕ} 0 1
-not-value vr start end h = ⊎_elim (λ e. omega arith) (λ k. ⊎_elim (λ e. omega arith) (λ e. omega arith) k) h
+NoValue p = (vr start end : ℕ) → p ≡ place.Value vr start end → ⊥
 
 module _ (d : List ℕ) (p : Place) where
   pub no_value : (want : ℕ) (o : Option Element) → NoValue p → Placed d o p → value_of want o d ≡ Opt.none
   unfolding value_of
   no_value want Opt.none h q = refl
-  no_value want (some (Element.value at tag vr span)) h q = never (not-value vr span.start span.end (rw q.0 at h))
+  no_value want (some (Element.value at tag vr span)) h q = absurd (h vr span.start span.end q.0)
   no_value want (some (Element.sequence at tag span items)) h q = refl
   no_value want (some (Element.fragments at tag span parts)) h q = refl
 
@@ -121,10 +117,7 @@ module _ (d : List ℕ) (tag tag' : ℕ) (x : Extent) (r : Sought) (s : SoughtIn
 
 -- what the `else` of a `let .. else` for a sequence has of the place
 abbrev pub NoItems : Place → Type 0
-NoItems p = OneOf (0 ∷ 1 ∷ 3 ∷ []) (tag_of enum.the_type p)
-
-not-items : (x : Extent) → NoItems (place.Items x) → ◌≡◌ {A = ℕ} 0 1
-not-items x h = ⊎_elim (λ e. omega arith) (λ k. ⊎_elim (λ e. omega arith) (λ e. omega arith) k) h
+NoItems p = (x : Extent) → p ≡ place.Items x → ⊥
 
 module _ (d : List ℕ) (p : Place) (w : ItemKey) where
   pub item-none : NoItems p → FoundItemUnder d p w found.Absent
@@ -133,7 +126,7 @@ module _ (d : List ℕ) (p : Place) (w : ItemKey) where
       by-element : (o : Option Element) → Placed d o p → FoundItemAs d (item_where (has_key d w) (items_of o)) found.Absent
       by-element Opt.none q = refl
       by-element (some (Element.value at tag vr span)) q = refl
-      by-element (some (Element.sequence at tag span items)) q = never (not-items q.0 (rw q.1 at h))
+      by-element (some (Element.sequence at tag span items)) q = absurd (h q.0 q.1)
       by-element (some (Element.fragments at tag span parts)) q = refl
 
   module _ (x : Extent) (is : p ≡ place.Items x) where

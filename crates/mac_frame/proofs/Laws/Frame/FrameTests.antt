@@ -14,7 +14,7 @@ use Rattle.answer.specs.declared.Answer.{Answer}
 use Rattle.slices.specs.If.{if◌then◌else◌}
 use Rattle.answer.specs.Answer.{refused}
 use Rattle.slices.specs.Lists.{between}
-use Rattle.mac.specs.Result.{is_accepted, output_after}
+use Rattle.mac.specs.Result.{Streamed, is_accepted, output_after}
 use Rattle.mac.specs.ListMode.{Call, answer, stream, stream_call, result}
 use Rattle.mac_frame.specs.Text.{line, hex_lines}
 use Rattle.mac_frame.specs.Frame.{input_limit, output_room, big32, frame_of, frame_call, report, printed_by, printed}
@@ -151,6 +151,15 @@ within-room c a e n =
 pub frame-call : (s out : List ℕ) (end : ℕ) → length out ≡ output_room
     → stream_call (between s 5 end) (between s (end + 4) (length s)) out ≡ frame_call s end
 frame-call s out end e = λ i. record { list = between s 5 end; set = between s (end + 4) (length s); room = e i; expected = Opt.none }
+
+-- what the code's call of list mode answers, and leaves in the output, is what the frame's does
+module _ (s out after : List ℕ) (end : ℕ) (a : Answer) (room : length out ≡ output_room)
+    (is : Streamed (result (stream_call (between s 5 end) (between s (end + 4) (length s)) out)) (between s (end + 4) (length s)) out a after) where
+  pub answer-framed : a ≡ answer (frame_call s end)
+  answer-framed = is.answers ∙ ap answer (frame-call s out end room)
+
+  pub output-framed : after ≡ output_after (result (frame_call s end)) out
+  output-framed = is.output ∙ ap (λ (k : Call). output_after (result k) out) (frame-call s out end room)
 
 printed-as : (s text after : List ℕ) (r : ℕ) (f g : Frame) → f ≡ frame_of s → f ≡ g → Wrote text 0 (printed_by g s) r after
     → Wrote text 0 (printed s) r after

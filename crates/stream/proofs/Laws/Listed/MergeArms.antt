@@ -1,8 +1,5 @@
 -- The helpers of the walk over list and top level, place by place. Assumes nothing.
 use Prim.Native.Nat.{ℕ, ◌+◌, ◌*◌, ◌/◌, ◌≤◌, ◌<◌}
-use mathlib.Core.Logic.{⊎_elim}
-use types.Run.{OneOf}
-use denote.Enum.Declared.{tag_of}
 use mathlib.Core.Path.{◌≡◌, refl, sym, ap, ◌∙◌}
 use mathlib.Core.Bool.{Bool, true, false}
 use mathlib.Core.List.{List, [], ◌∷◌}
@@ -19,7 +16,6 @@ use Rattle.stream.specs.Inner.Listed.{next_listed, stopped_of, merged_of, ended_
 use Rattle.stream.specs.declared.listed.Listed.{Listed}
 use Rattle.stream.specs.declared.keep.Keep.{Keep}
 use Rattle.stream.specs.declared.keep.Keep.TheVariants as keep
-use Rattle.stream.specs.contracts.keep.Keep as enum
 use Rattle.stream.proofs.Laws.TagList.TagChecks.{tags-more, tags-none}
 
 pub listed-none : (l : List ℕ) (index : ℕ) → length l / 4 ≤ index → keep.Nothing ≡ next_listed (tags_in (drop (4 * index) l))
@@ -43,10 +39,7 @@ stopped-is count number index a e = rw e
 
 -- what the `else` of a `let .. else` for one wanted element has
 abbrev NotOnly : Keep → Type 0
-NotOnly k = OneOf (0 ∷ 2 ∷ []) (tag_of enum.the_type k)
-
-not-only : (wanted : ℕ) → NotOnly (keep.Only wanted) → ⊥
-not-only wanted h = ⊎_elim (λ e. omega arith) (λ e. omega arith) h
+NotOnly k = (wanted : ℕ) → k ≡ keep.Only wanted → ⊥
 
 module _ (count : ℕ) (k : Keep) (s : Listed) (tag : ℕ) (unknown holds : Bool) (to : ℕ) where
   pub merged-none : NotOnly k → s ≡ merged_of count k s tag unknown holds to
@@ -55,7 +48,7 @@ module _ (count : ℕ) (k : Keep) (s : Listed) (tag : ℕ) (unknown holds : Bool
     where
       go : (j : Keep) → NotOnly j → s ≡ merged_of count j s tag unknown holds to
       go keep.Unbarred h = refl
-      go (keep.Only wanted) h = absurd (not-only wanted h)
+      go (keep.Only wanted) h = absurd (h wanted refl)
       go keep.Nothing h = refl
 
   module _ (wanted : ℕ) (e : k ≡ keep.Only wanted) where
@@ -94,7 +87,7 @@ module _ (k : Keep) (tag : ℕ) (tags : List ℕ) where
     where
       go : (j : Keep) → NotOnly j → r ≡ wanted_behind j tag tags
       go keep.Unbarred h = q
-      go (keep.Only wanted) h = absurd (not-only wanted h)
+      go (keep.Only wanted) h = absurd (h wanted refl)
       go keep.Nothing h = q
 
   module _ (wanted : ℕ) (e : k ≡ keep.Only wanted) where

@@ -1,0 +1,7 @@
+use lib.Bits.{bit_xor}
+use Rattle.digest.specs.Words as Words
+use Rattle.digest.proofs.words.small_sigma0.Goals as goal
+
+pub returns : goal.returns
+unfolding Words.small_sigma0
+returns c = λ i. bit_xor (bit_xor (c.rotr.ensures i) (c.rotr-2.ensures i)) (Words.shr 3 c.args.x)

@@ -1,0 +1,6 @@
+-- `list_stream` meets its contract. Assumes nothing.
+use Rattle.mac.proofs.Laws.ListMode.ListMode as steps
+use Rattle.mac.proofs.list_mode.list_stream.Goals as goal
+
+pub returns : goal.returns
+returns c = search (steps.list-streamed, c.type_inv.d)

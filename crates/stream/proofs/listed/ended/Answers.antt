@@ -1,0 +1,9 @@
+-- `ended` meets its contract: each place by its law in MergeArms. Assumes nothing.
+use Rattle.stream.proofs.Laws.Listed.MergeArms as steps
+use Rattle.stream.proofs.listed.ended.Goals as goal
+
+pub returns-then-list-index : goal.returns-then-list-index
+returns-then-list-index c = search steps.ended-none
+
+pub returns : goal.returns
+returns c = search steps.ended-absent

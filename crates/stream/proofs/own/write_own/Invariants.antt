@@ -1,0 +1,10 @@
+-- `write_own` meets its contract: each place by its law in OwnLoop. Assumes nothing.
+use Rattle.std.proofs.Common.{◌-◌}
+use Rattle.stream.proofs.Laws.Own.OwnLoop as steps
+use Rattle.stream.proofs.own.write_own.Given as goal
+
+abbrev pub invariant-loop-fault : goal.invariant-loop-fault
+invariant-loop-fault l = steps.OwnLoop l.d l.x l.initial.out l.onto l.out l.at l.least l.to
+
+abbrev pub decreases-loop-fault : goal.decreases-loop-fault
+decreases-loop-fault l = l.x.stop - l.at
