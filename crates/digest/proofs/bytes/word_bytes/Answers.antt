@@ -1,5 +1,5 @@
 use Rattle.std.proofs.Common.{arith, refl, rules, sym, take_all, ◌∙◌, ◌≡◌}
-use Rattle.slices.specs.Lists.{at, tabulate}
+use Rattle.slices.specs.Lists.{tabulate}
 use Rattle.digest.specs.Padding.{word_bytes}
 use Rattle.slices.proofs.Laws.Tables.{tabulate-next}
 use Rattle.digest.proofs.bytes.word_bytes.Goals as goal

@@ -1,4 +1,4 @@
-use Rattle.std.proofs.Common.{arith, length, length-set, length-take, length-take-le, rules, sym, take, ◌≡◌}
+use Rattle.std.proofs.Common.{length-take-le, rules, take}
 use Rattle.digest.proofs.Laws.Padding.Padded.{padded-stores}
 use Rattle.digest.proofs.padding.padded.Goals as goal
 

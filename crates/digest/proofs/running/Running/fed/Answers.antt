@@ -1,4 +1,4 @@
-use Rattle.std.proofs.Common.{arith, length-take, rules, ◌-◌}
+use Rattle.std.proofs.Common.{arith, rules, ◌-◌}
 use Rattle.digest.specs.Sha256.{sha256}
 use Rattle.digest.proofs.Laws.Running.WaitingArray.{fed-few, fed-many, part_to_end}
 use Rattle.digest.proofs.running.Running.fed.Goals as goal

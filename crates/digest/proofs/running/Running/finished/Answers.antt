@@ -1,4 +1,4 @@
-use Rattle.std.proofs.Common.{List, ap, ap₂, arith, length, length-take-le, replicate, rules, sym, ℕ, ◌++◌, ◌∙◌, ◌∷◌, ◌≡◌}
+use Rattle.std.proofs.Common.{List, ap, ap₂, replicate, rules, ℕ, ◌++◌, ◌∙◌, ◌∷◌}
 use Rattle.digest.specs.Padding.{big_endian, word_bytes, padding}
 use Rattle.digest.specs.Message.{after_blocks}
 use Rattle.digest.specs.Sha256.{compressed}
