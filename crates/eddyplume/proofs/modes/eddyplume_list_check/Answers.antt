@@ -1,0 +1,6 @@
+-- `eddyplume_list_check` meets its contract. Assumes nothing.
+use Rattle.eddyplume.proofs.Laws.Boundary as steps
+use Rattle.eddyplume.proofs.modes.eddyplume_list_check.Goals as goal
+
+pub returns : goal.returns
+returns c = search steps.checked-to
