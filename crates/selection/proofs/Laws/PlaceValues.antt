@@ -2,14 +2,12 @@
 use borrow.Author.Tests.{eq-eqb, ne_eqb}
 use Prim.Native.Nat.{ℕ, ◌≤◌, ◌<◌, ◌-◌}
 use mathlib.Core.Path.{◌≡◌, refl, ap}
-use mathlib.Core.Logic.{⊎_elim}
-use mathlib.Core.List.{List, [], ◌∷◌}
+use mathlib.Core.List.{List}
 use mathlib.Core.Option.{Option, some}
 use mathlib.Core.Option as Opt
 use native.Mathlib.Omega.{arith}
 use lib.Dec.{eqb}
 use lib.ListN.{length, take, drop}
-use denote.Enum.Declared.{tag_of}
 use Rattle.slices.specs.If.{if◌then◌else◌}
 use Rattle.slices.specs.Lists.{between}
 use Rattle.dataset.specs.Tree.{Element, Elements}
@@ -30,7 +28,6 @@ use Rattle.selection.specs.declared.items.FoundItem.{FoundItem}
 use Rattle.selection.specs.declared.items.FoundItem.TheVariants as found
 use Rattle.dataset.proofs.Laws.Extent.Outside.{read-lies}
 use Rattle.dataset.proofs.Laws.Seek.Places.{placed-lies, sought-past}
-use Rattle.dataset.specs.contracts.seek.Place as enum
 
 -- cases that cannot be
 pub never : {A : Type 0} → ◌≡◌ {A = ℕ} 0 1 → A

@@ -6,7 +6,7 @@ use Rattle.std.specs.Prelude.{ℕ, ◌+◌, ◌≡◌, Bool, false, List, [], le
 use Rattle.std.proofs.lemmas.List.Edits.{sets}
 use Rattle.slices.specs.If.{if◌then◌else◌}
 use Rattle.dataset.specs.Header.{ElementHeader, element_at}
-use Rattle.dataset.specs.Tree.{Element, tag_of}
+use Rattle.dataset.specs.Tree.{tag_of}
 use Rattle.dataset.specs.Reading.{Reading, fault, read, One, ended, element, explicit, by_header, elements_at, items_at, fragments_at, one_at}
 use Rattle.stream.specs.Stream.{stream_of, elements_stream, items_stream, fragments_stream}
 use Rattle.stream.specs.UN.{is_un, holds_un, elements_hold_un, items_hold_un}

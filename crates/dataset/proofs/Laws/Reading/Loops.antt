@@ -12,7 +12,6 @@ use Rattle.answer.specs.declared.Answer.{Answer}
 use Rattle.answer.specs.Answer as answer
 use Rattle.slices.specs.If.{if◌then◌else◌}
 use Rattle.dataset.specs.Header.{fault_at, item_case, item_at}
-use Rattle.dataset.specs.Tree.{Element}
 use Rattle.dataset.specs.Reading.{fault, read, ended, element, explicit, by_one, by_item, by_fragment, fragments_at, elements_at, items_at, one_at, size_limit, size_answer, unless_refused, levels, deeper, data_set, answer_of, handed_on, one_case}
 use Rattle.dataset.specs.Inner.Outcomes.{outcome_of, one_outcome_of}
 use Rattle.dataset.specs.declared.header.ItemHeader.{ItemHeader}

@@ -11,7 +11,6 @@ use Rattle.slices.specs.If.{if◌then◌else◌}
 use Rattle.dataset.specs.Vr.{OB, SQ}
 use Rattle.dataset.specs.Header.{fault_at, element_case, element_at}
 use Rattle.dataset.specs.Header as spec
-use Rattle.dataset.specs.Tree.{Element}
 use Rattle.dataset.specs.Reading.{Reading, fault, read, ◌>>=◌, One, explicit, by_header, fragments_at, items_at, one_at, handed_on, one_case}
 use Rattle.dataset.specs.Inner.Outcomes.{outcome_of, one_outcome_of, PastDelimiter, holding_of}
 use Rattle.dataset.specs.declared.header.ElementHeader.{ElementHeader}

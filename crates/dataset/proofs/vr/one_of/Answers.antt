@@ -1,4 +1,4 @@
-use Rattle.std.proofs.Common.{List, drop, drop_of_length-le, false, get_or, length, refl, rules, sym, true, ℕ, ◌+◌, ◌<◌, ◌∙◌, ◌≡◌, ◌≤◌}
+use Rattle.std.proofs.Common.{List, drop_of_length-le, false, get_or, length, refl, rules, sym, true, ℕ, ◌+◌, ◌<◌, ◌∙◌, ◌≡◌, ◌≤◌}
 use borrow.Author.Tests.{eq-eqb, ne_eqb}
 use native.Mathlib.Numerals.{add-one}
 use native.Mathlib.Omega.{arith}

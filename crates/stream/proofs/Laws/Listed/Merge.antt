@@ -12,7 +12,7 @@ use borrow.Author.Tests.{le-ltb, eq-eqb, ltb-false}
 use Rattle.answer.specs.declared.Answer.{Answer}
 use Rattle.slices.specs.If.{if◌then◌else◌}
 use Rattle.answer.specs.Answer.{accepted, refused, ◌or_else◌}
-use Rattle.dataset.specs.Tree.{Element, Elements, none, and, tag_of}
+use Rattle.dataset.specs.Tree.{Element, Elements, and, tag_of}
 use Rattle.dataset.specs.Reading.{Reading, fault, read, ◌>>=◌}
 use Rattle.dataset.specs.Lookup.{element_of}
 use Rattle.stream.specs.TagList.{ascending_answer}

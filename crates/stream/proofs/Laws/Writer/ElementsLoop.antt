@@ -7,7 +7,7 @@ use mathlib.Core.List.{List, []}
 use native.Mathlib.Omega.{arith}
 use lib.ListN.{length}
 use Rattle.answer.specs.declared.Answer.{Answer}
-use Rattle.dataset.specs.Tree.{Element, Elements, none, and}
+use Rattle.dataset.specs.Tree.{Elements, none, and}
 use Rattle.dataset.specs.Reading.{element, explicit, by_one, elements_at, one_at}
 use Rattle.stream.specs.Inner.Keep.{keeps}
 use Rattle.stream.specs.Inner.Writer.{walked, one_stream, Walk, OneWalk}
