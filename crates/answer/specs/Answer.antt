@@ -1,8 +1,7 @@
 -- The answer of a call: docs/RULES.md, 9. 9.1: "Every answer consists of number, position and length." `Answer` is the struct of
 -- src/lib.rt.
 -- Assumes nothing.
-use Rattle.std.specs.Prelude.{ℕ, zero, suc, eqb}
-use Rattle.slices.specs.If.{if◌then◌else◌}
+use Rattle.std.specs.Prelude.{ℕ, zero, suc, eqb, if◌then◌else◌}
 use Rattle.answer.specs.declared.Answer.{Answer}
 
 -- 9.1: "With number 0 the position is 0." 7.1: "A call with number 0 is accepted."

@@ -1,8 +1,7 @@
 -- Numbers, tags and VRs as a data set codes them: RULES, 2.4 and 2.5 (PS3.5, 7.1 and 7.3). Assumes nothing.
-use Rattle.std.specs.Prelude.{ℕ, ◌+◌, ◌*◌, List, length, get_or, leb}
+use Rattle.std.specs.Prelude.{ℕ, ◌+◌, ◌*◌, List, length, get_or, leb, if◌then◌else◌}
 use Rattle.std.proofs.Math.Option.{Option, some}
 use Rattle.std.proofs.Math.Option as Opt
-use Rattle.slices.specs.If.{if◌then◌else◌}
 use Rattle.dataset.specs.declared.bytes.TagIn.{TagIn}
 use Rattle.dataset.specs.declared.bytes.TagIn.TheVariants as tag_enum
 

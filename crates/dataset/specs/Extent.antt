@@ -2,8 +2,7 @@
 -- src/extent.rt: from `from` up to `stop`, the end of the extent of RULES 2.10, or to a delimiter before it (`delimited`); `left` levels of
 -- sequences may follow.
 -- Assumes nothing.
-use Rattle.std.specs.Prelude.{ℕ, true, false, List}
-use Rattle.slices.specs.If.{if◌then◌else◌}
+use Rattle.std.specs.Prelude.{ℕ, true, false, List, if◌then◌else◌}
 use Rattle.answer.specs.declared.Answer.{Answer}
 use Rattle.answer.specs.Answer.{accepted}
 use Rattle.dataset.specs.Header.{ItemHeader, fault_at, outside, item_at}

@@ -7,8 +7,7 @@
 -- start      the offset past the header: of the value, the items, the elements or the fragment's bytes
 -- left       how many levels of sequences may follow: 16 less the level (2.3); more than 16 count as 16 (`deeper` of Reading.antt)
 -- least      one more than the tag before in the same data set, or 0 where there is none
-use Rattle.std.specs.Prelude.{ℕ, ◌+◌, ◌-◌, ◌%◌, Bool, true, false, not, ◌&&◌, ◌||◌, List, length, ltb, eqb}
-use Rattle.slices.specs.If.{if◌then◌else◌}
+use Rattle.std.specs.Prelude.{ℕ, ◌+◌, ◌-◌, ◌%◌, Bool, true, false, not, ◌&&◌, ◌||◌, List, length, ltb, eqb, if◌then◌else◌}
 use Rattle.answer.specs.declared.Answer.{Answer}
 use Rattle.answer.specs.Answer as answer
 use Rattle.dataset.specs.Bytes.{num16, num32, tag_at, vr_at}

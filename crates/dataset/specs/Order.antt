@@ -1,7 +1,6 @@
 -- Where the parts of a tree lie in the data set, and what stands there: what the reading guarantees and what it accepts (`InOrder` and
 -- `FilledIsRead` of Theorems.antt). Assumes nothing.
-use Rattle.std.specs.Prelude.{ℕ, ◌+◌, ◌-◌, ◌%◌, ◌≤◌, ◌<◌, ◌≡◌, ◌≢◌, Bool, true, false, List, [], ◌∷◌}
-use Rattle.slices.specs.If.{if◌then◌else◌}
+use Rattle.std.specs.Prelude.{ℕ, ◌+◌, ◌-◌, ◌%◌, ◌≤◌, ◌<◌, ◌≡◌, ◌≢◌, Bool, true, false, List, [], ◌∷◌, if◌then◌else◌}
 use Rattle.dataset.specs.Bytes.{num16, num32, tag_at, vr_at}
 use Rattle.dataset.specs.Vr.{OB, SQ, form_of}
 use Rattle.dataset.specs.Header.{undefined}

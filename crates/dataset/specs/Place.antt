@@ -1,10 +1,9 @@
 -- What stands under a tag of a data set, by where it lies (RULES, 2.10), and what the walk for two tags answers. `Place` and `Sought` are the
 -- enums of src/seek.rt.
 -- Assumes nothing.
-use Rattle.std.specs.Prelude.{ℕ, ◌-◌, ◌≤◌, ◌<◌, ◌≡◌, List, length}
+use Rattle.std.specs.Prelude.{ℕ, ◌-◌, ◌≤◌, ◌<◌, ◌≡◌, List, length, if◌then◌else◌}
 use Rattle.std.proofs.Math.Option.{Option, some}
 use Rattle.std.proofs.Math.Option as Opt
-use Rattle.slices.specs.If.{if◌then◌else◌}
 use Rattle.dataset.specs.Tree.{Span, Element, Elements, Items}
 use Rattle.dataset.specs.Reading.{Reading, fault, read}
 use Rattle.dataset.specs.Lookup.{element_of}

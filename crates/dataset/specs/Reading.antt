@@ -1,10 +1,9 @@
 -- The reading of a data set: "Of several faults the leftmost is given." (RULES, 2.20), or the tree of its elements. Assumes nothing.
-use Rattle.std.specs.Prelude.{ℕ, zero, suc, ◌+◌, ◌-◌, ◌≤◌, Bool, true, false, List, [], ◌∷◌, ◌≡◌, length, eqb, ltb}
+use Rattle.std.specs.Prelude.{ℕ, zero, suc, ◌+◌, ◌-◌, ◌≤◌, Bool, true, false, List, [], ◌∷◌, ◌≡◌, length, eqb, ltb, if◌then◌else◌}
 use Rattle.std.proofs.Math.Option.{Option, some}
 use Rattle.std.proofs.Math.Option as Opt
 use Rattle.answer.specs.declared.Answer.{Answer}
 use Rattle.answer.specs.Answer as answer
-use Rattle.slices.specs.If.{if◌then◌else◌}
 use Rattle.dataset.specs.Header.{ElementHeader, ItemHeader, fault_at, element_at, item_at}
 use Rattle.dataset.specs.Tree.{Span, span, Element, value, sequence, fragments, Elements, none, and, Items, last, item, tag_of, vr_of, span_of}
 use Rattle.dataset.specs.declared.reading.OneOutcome.{OneOutcome}

@@ -1,6 +1,5 @@
 -- The VRs, and the form of a VR's header: RULES, 2.6 and 2.7. Assumes nothing.
-use Rattle.std.specs.Prelude.{ℕ, Bool, false, ◌||◌, List, [], ◌∷◌, eqb}
-use Rattle.slices.specs.If.{if◌then◌else◌}
+use Rattle.std.specs.Prelude.{ℕ, Bool, false, ◌||◌, List, [], ◌∷◌, eqb, if◌then◌else◌}
 use Rattle.dataset.specs.Bytes.{vr}
 use Rattle.dataset.specs.declared.vr.Form.{Form}
 use Rattle.dataset.specs.declared.vr.Form.TheVariants.{Short, Long, Neither}

@@ -1,8 +1,7 @@
 -- The rule for the constants of SHA-256: FIPS 180-4, 4.2.2 and 5.3.3. The theorems ConstantsRule and StartWordsRule say that the tables
 -- keep it.
 -- Assumes nothing.
-use Rattle.std.specs.Prelude.{ℕ, zero, suc, ◌+◌, ◌-◌, ◌*◌, ◌%◌, ◌^◌, ◌<◌, ◌≤◌, Bool, true, not, ◌&&◌, ◌||◌, List, [], ◌∷◌, ◌++◌, ◌==◌, nat_le, nat_lt}
-use Rattle.slices.specs.If.{if◌then◌else◌}
+use Rattle.std.specs.Prelude.{ℕ, zero, suc, ◌+◌, ◌-◌, ◌*◌, ◌%◌, ◌^◌, ◌<◌, ◌≤◌, Bool, true, not, ◌&&◌, ◌||◌, List, [], ◌∷◌, ◌++◌, ◌==◌, nat_le, nat_lt, if◌then◌else◌}
 
 -- 4.2.2, 5.3.3: x is the first 32 bits of the fractional part of the e-th root of p. With the root's whole part, whole * 2 ^ 32 + x is the
 -- greatest number whose e-th power is at most p * 2 ^ (32 * e).

@@ -2,8 +2,7 @@
 -- RFC 1321, 3.
 -- `Hashed` is the struct of src/message.rt. An array of the code is the list of its numbers.
 -- Assumes nothing.
-use Rattle.std.specs.Prelude.{ℕ, zero, suc, ◌-◌, ◌*◌, ◌/◌, ◌^◌, List, ◌++◌, length, take, drop, replicate, nat_le}
-use Rattle.slices.specs.If.{if◌then◌else◌}
+use Rattle.std.specs.Prelude.{ℕ, zero, suc, ◌-◌, ◌*◌, ◌/◌, ◌^◌, List, ◌++◌, length, take, drop, replicate, nat_le, if◌then◌else◌}
 use Rattle.answer.specs.Answer.{accepted, refused}
 use Rattle.digest.specs.Padding.{ByteOrder, word_bytes, padding}
 use Rattle.digest.specs.declared.message.Hashed.{Hashed}

@@ -3,8 +3,7 @@
 -- and the total of the bytes fed." The waiting bytes stand in an array of 64, with their count.
 -- An array of the code is the list of its numbers; the definitions hold for lists of any length.
 -- Assumes nothing.
-use Rattle.std.specs.Prelude.{ℕ, ◌+◌, ◌-◌, ◌%◌, Bool, ◌&&◌, List, [], ◌++◌, length, take, drop, replicate, ◌==◌, nat_le}
-use Rattle.slices.specs.If.{if◌then◌else◌}
+use Rattle.std.specs.Prelude.{ℕ, ◌+◌, ◌-◌, ◌%◌, Bool, ◌&&◌, List, [], ◌++◌, length, take, drop, replicate, ◌==◌, nat_le, if◌then◌else◌}
 use Rattle.slices.specs.Lists.{all_are}
 use Rattle.answer.specs.Answer.{accepted, refused}
 use Rattle.digest.specs.Padding.{word_bytes, padding}

@@ -1,6 +1,5 @@
 // The waiting bytes and the padding after them: FIPS 180-4, 5.1.1.
-ghost use Rattle.std.specs.Prelude.{◌≡◌, ◌+◌, ◌-◌, ◌<◌, ◌≤◌, ◌∷◌, ◌++◌, take, replicate, nat_lt};
-ghost use Rattle.slices.specs.If.{if◌then◌else◌};
+ghost use Rattle.std.specs.Prelude.{◌≡◌, ◌+◌, ◌-◌, ◌<◌, ◌≤◌, ◌∷◌, ◌++◌, take, replicate, nat_lt, if◌then◌else◌};
 
 use crate::bytes;
 

@@ -2,9 +2,8 @@
 -- numbers. `StreamedTo` and `CheckedTo` are `Streamed` and `CheckedAs` of mac with the answer as three numbers; specs/Theorems.antt says of
 -- these, too, what is proved of those.
 -- Assumes nothing.
-use Rattle.std.specs.Prelude.{ℕ, ◌≡◌, Bool, true, false, List, [], ◌∷◌, eqb, get_or}
+use Rattle.std.specs.Prelude.{ℕ, ◌≡◌, Bool, true, false, List, [], ◌∷◌, eqb, get_or, if◌then◌else◌}
 use Rattle.answer.specs.declared.Answer.{Answer}
-use Rattle.slices.specs.If.{if◌then◌else◌}
 use Rattle.slices.specs.Lists.{OfBytes}
 use Rattle.dataset.specs.declared.lookup.Found.{Found}
 use Rattle.digest.specs.Running.{feeding, finishing}

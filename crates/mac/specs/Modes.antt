@@ -1,10 +1,9 @@
 -- What list mode and signature mode share: the end of the order, "then 9, 16" (RULES, 9.4, 9.5). Up to there neither the output room nor the
 -- expected digest counts.
 -- Assumes nothing.
-use Rattle.std.specs.Prelude.{ℕ, Bool, false, not, List, eqb, length}
+use Rattle.std.specs.Prelude.{ℕ, Bool, false, not, List, eqb, length, if◌then◌else◌}
 use Rattle.std.proofs.Math.Option.{Option, some}
 use Rattle.std.proofs.Math.Option as Opt
-use Rattle.slices.specs.If.{if◌then◌else◌}
 use Rattle.answer.specs.declared.Answer.{Answer}
 use Rattle.answer.specs.Answer.{accepted, refused, ◌or_else◌}
 use Rattle.stream.specs.Walk.{answer_from16}

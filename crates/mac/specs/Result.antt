@@ -1,9 +1,8 @@
 -- What a call in either mode comes to: its answer, what it leaves in the output, and what a check says.
 -- Assumes nothing.
-use Rattle.std.specs.Prelude.{ℕ, ◌≡◌, Bool, List, eqb}
+use Rattle.std.specs.Prelude.{ℕ, ◌≡◌, Bool, List, eqb, if◌then◌else◌}
 use Rattle.std.proofs.Math.Option.{Option, some}
 use Rattle.std.proofs.Math.Option as Opt
-use Rattle.slices.specs.If.{if◌then◌else◌}
 use Rattle.answer.specs.declared.Answer.{Answer}
 use Rattle.slices.specs.Lists.{OfBytes, same_bytes}
 use Rattle.digest.specs.Message.{digest_of}

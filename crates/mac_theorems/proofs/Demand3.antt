@@ -1,4 +1,5 @@
 -- Demand 3, as specs/Demand3.antt states it. Assumes nothing.
+use Rattle.std.proofs.Common.{if◌then◌else◌}
 use Prim.Native.Nat.{ℕ}
 use mathlib.Core.Path.{◌≡◌, refl, sym, ap, ap₂, ◌∙◌}
 use mathlib.Core.Logic.{◌≢◌, ◌↔◌}
@@ -11,7 +12,6 @@ use lib.Dec.{eqb}
 use lib.ListN.{take}
 use borrow.Author.Tests.{eqb-true, eqb-false, eq-eqb}
 use Rattle.answer.specs.declared.Answer.{Answer}
-use Rattle.slices.specs.If.{if◌then◌else◌}
 use Rattle.answer.specs.Answer.{◌or_else◌}
 use Rattle.dataset.proofs.Laws.Reading.Guarantees.{DataSetIs, data-set-read}
 use Rattle.digest.specs.Message.{digest_of}
@@ -154,7 +154,6 @@ same-content c d b b' g g' same = record { answers = answers; verdicts = same-ve
 
 -- what the functions promise makes a run: a call for the stream says neither
 stream-says : (a : Bool) → neither ≡ (if a then neither else neither)
-unfolding if◌then◌else◌
 stream-says true = refl
 stream-says false = refl
 

@@ -1,7 +1,6 @@
 -- The starred examples, all at once, and the signed contents of 5, 6 and 9: both sides are computed. Assumes nothing.
 use mathlib.Core.Path.{refl}
 use mathlib.Core.Bool.{true≢false}
-use Rattle.slices.specs.If.{if◌then◌else◌}
 use Rattle.answer.specs.Answer.{◌or_else◌}
 use Rattle.dataset.specs.Bytes.{num16, num32, tag_at, vr_at}
 use Rattle.slices.specs.Lists.{between}
@@ -21,9 +20,9 @@ use Rattle.mac.specs.ListMode.{content_of, stream_in, answer_to15, answer}
 use Rattle.mac_theorems.specs.Examples.{examples, ExamplesHold, ContentsHold}
 
 pub examples-hold : ExamplesHold
-unfolding examples answer answer_to15 answer_from9 answer_from16 output_after left_in stream_in ◌or_else◌ if◌then◌else◌ list_answer bad_size ascending_answer unbarred_answer barred tags_in tags_answer element_answer holds_un listed_stream stream_of fragments_stream element_of data_set size_answer unless_refused elements_at elements_by fragments_by by_header by_one by_item by_fragment element_at vr_on_at by_form long_at bad_length too_deep undefined_by defined_by value_by item_at item_by ends_at closed_by form_of one_of num16 num32 tag_at vr_at between
+unfolding examples answer answer_to15 answer_from9 answer_from16 output_after left_in stream_in ◌or_else◌ list_answer bad_size ascending_answer unbarred_answer barred tags_in tags_answer element_answer holds_un listed_stream stream_of fragments_stream element_of data_set size_answer unless_refused elements_at elements_by fragments_by by_header by_one by_item by_fragment element_at vr_on_at by_form long_at bad_length too_deep undefined_by defined_by value_by item_at item_by ends_at closed_by form_of one_of num16 num32 tag_at vr_at between
 examples-hold = refl
 
 pub contents-hold : ContentsHold
-unfolding content_of content signed fragment_bytes tags_in barred element_of data_set size_answer unless_refused elements_at elements_by fragments_by by_header by_one by_item by_fragment element_at vr_on_at by_form long_at bad_length too_deep undefined_by defined_by value_by item_at item_by ends_at closed_by form_of one_of num16 num32 tag_at vr_at between if◌then◌else◌
+unfolding content_of content signed fragment_bytes tags_in barred element_of data_set size_answer unless_refused elements_at elements_by fragments_by by_header by_one by_item by_fragment element_at vr_on_at by_form long_at bad_length too_deep undefined_by defined_by value_by item_at item_by ends_at closed_by form_of one_of num16 num32 tag_at vr_at between
 contents-hold = record { of5 = refl; of6 = refl; of9two = refl; of9one = refl; differ = λ e. true≢false (cc) }

@@ -1,5 +1,6 @@
 -- Number 17, the rule that was removed: no UN is met where none of 13, 14 and 15 is given, so that the orders with and without it give the
 -- same answers. Assumes nothing.
+use Rattle.std.proofs.Common.{if◌then◌else◌}
 use Prim.Native.Nat.{ℕ, ◌+◌}
 use mathlib.Core.Path.{◌≡◌, refl, ap, ◌∙◌}
 use mathlib.Core.Bool.{Bool, true, false, ◌||◌}
@@ -7,7 +8,6 @@ use mathlib.Core.List.{List, [], ◌∷◌}
 use mathlib.Core.Option.{Option, some}
 use mathlib.Core.Option as Opt
 use native.Mathlib.Omega.{arith}
-use Rattle.slices.specs.If.{if◌then◌else◌}
 use Rattle.answer.specs.declared.Answer.{Answer}
 use Rattle.answer.specs.Answer.{refused, ◌or_else◌}
 use Rattle.answer.proofs.Laws.OrElse.{or-else-first, or-else-same, or-else-assoc}
@@ -84,7 +84,7 @@ listed-unmet (tag ∷ tags) i es d h =
 
 -- of the signature item's own
 own-unmet : (es : Elements) (d : List ℕ) → sequences_write_un (signed_elements (own es) d) ≡ false
-unfolding own signed_elements sequences_write_un if◌then◌else◌
+unfolding own signed_elements sequences_write_un
 own-unmet Elements.none d = refl
 own-unmet (Elements.and e es) d = go (left_out e) refl (own-unmet es d)
   where
@@ -100,7 +100,7 @@ signature-unmet list item es d h = both_false (listed-unmet (tags_in list) 0 es 
 -- ---- the orders without and with 17
 from13-same : (tags : List ℕ) (es : Elements) (met_un : Bool) (stream : List ℕ) (room : ℕ) (expected : Option (List ℕ)) → ((tags_answer 0 tags es).number ≡ 0 → met_un ≡ false)
     → (tags_answer 0 tags es or_else answer_from9 stream room expected) ≡ answer_from13_with17 tags es met_un stream room expected
-unfolding answer_from9 answer_from16 answer_from13_with17 ◌or_else◌ if◌then◌else◌
+unfolding answer_from9 answer_from16 answer_from13_with17 ◌or_else◌
 from13-same tags es met_un stream room expected unmet = or-else-same (tags_answer 0 tags es) _ _ λ h. rw (unmet h)
 
 by-same : (c : signature_mode.Call)

@@ -1,11 +1,10 @@
 -- What is true of the two modes beside demand 3: statements that a reader of the definitions would ask for, all in the record Theorems,
 -- proved in proofs/Theorems.antt.
 -- Assumes nothing.
-use Rattle.std.specs.Prelude.{ℕ, ◌≤◌, ◌<◌, ◌≡◌, ◌↔◌, ◌≢◌, true, false, List, ◌++◌, ltb, length, take, drop}
+use Rattle.std.specs.Prelude.{ℕ, ◌≤◌, ◌<◌, ◌≡◌, ◌↔◌, ◌≢◌, true, false, List, ◌++◌, ltb, length, take, drop, if◌then◌else◌}
 use Rattle.std.proofs.Math.Option.{some}
 use Rattle.std.proofs.Math.Option as Opt
 use Rattle.answer.specs.declared.Answer.{Answer}
-use Rattle.slices.specs.If.{if◌then◌else◌}
 use Rattle.answer.specs.Answer.{accepted, refused, ◌or_else◌}
 use Rattle.dataset.specs.Tree.{Elements}
 use Rattle.digest.specs.Message.{digest_of}

@@ -1,10 +1,9 @@
 -- Which signature item, parameters item, algorithm and list signature mode takes: docs/RULES.md, 8.1 to 8.3; 18 to 23 (9.3). The
 -- definitions are over the elements of a data set: those of the whole, or of an item, which "is again a data set" (2.2).
 -- Assumes nothing.
-use Rattle.std.specs.Prelude.{ℕ, ◌+◌, ◌-◌, Bool, true, false, not, ◌&&◌, ◌||◌, List, [], ◌∷◌, ◌++◌, eqb, length, take, drop, get_or}
+use Rattle.std.specs.Prelude.{ℕ, ◌+◌, ◌-◌, Bool, true, false, not, ◌&&◌, ◌||◌, List, [], ◌∷◌, ◌++◌, eqb, length, take, drop, get_or, if◌then◌else◌}
 use Rattle.std.proofs.Math.Option.{Option, some}
 use Rattle.std.proofs.Math.Option as Opt
-use Rattle.slices.specs.If.{if◌then◌else◌}
 use Rattle.slices.specs.Lists.{between, same_bytes, all_are}
 use Rattle.dataset.specs.Tags.{mac_id_number, mac_calculation_transfer_syntax_uid, mac_algorithm, data_elements_signed, mac_parameters_sequence, digital_signatures_sequence}
 use Rattle.dataset.specs.Vr.{AT, CS, UI, US}

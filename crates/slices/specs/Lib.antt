@@ -1,2 +1,1 @@
-pub mod If
 pub mod Lists

@@ -1,7 +1,6 @@
 -- The signature item's own elements, which follow the listed ones in signature mode: docs/RULES.md, 8.4 and 8.5.
 -- Assumes nothing.
-use Rattle.std.specs.Prelude.{ℕ, Bool, ◌||◌, eqb}
-use Rattle.slices.specs.If.{if◌then◌else◌}
+use Rattle.std.specs.Prelude.{ℕ, Bool, ◌||◌, eqb, if◌then◌else◌}
 use Rattle.dataset.specs.Tags.{certificate_of_signer, signature_value, certified_timestamp_type, certified_timestamp}
 use Rattle.dataset.specs.Tree.{Element, Elements, tag_of}
 use Rattle.stream.specs.TagList.{barred}

@@ -1,8 +1,7 @@
 -- What is signed by where it lies: the listed elements of the data set in an extent and, in signature mode, the signature item's own. Its
 -- stream, the numbers 10 to 16 (RULES, 9.4, 9.5), and what is left in the output. `SignatureItem` is the enum of src/walk.rt.
 -- Assumes nothing.
-use Rattle.std.specs.Prelude.{ℕ, ◌+◌, ◌≤◌, ◌≡◌, List, ◌++◌, eqb, ltb, length, drop}
-use Rattle.slices.specs.If.{if◌then◌else◌}
+use Rattle.std.specs.Prelude.{ℕ, ◌+◌, ◌≤◌, ◌≡◌, List, ◌++◌, eqb, ltb, length, drop, if◌then◌else◌}
 use Rattle.answer.specs.declared.Answer.{Answer}
 use Rattle.answer.specs.Answer.{accepted, refused, ◌or_else◌}
 use Rattle.dataset.specs.Tree.{Elements}

@@ -1,7 +1,6 @@
 -- For inner contracts; no part of what a reader has to believe. What the readers of items, fragments and elements answer, what a reader
 -- of one element makes of it, and what is found after one element more. Assumes nothing.
-use Rattle.std.specs.Prelude.{ℕ, ◌-◌, ◌≤◌, Bool}
-use Rattle.slices.specs.If.{if◌then◌else◌}
+use Rattle.std.specs.Prelude.{ℕ, ◌-◌, ◌≤◌, Bool, if◌then◌else◌}
 use Rattle.dataset.specs.Tree.{tag_of, vr_of, span_of}
 use Rattle.dataset.specs.Reading.{Reading, fault, read, One, ended, element}
 use Rattle.dataset.specs.declared.lookup.Found.{Found}

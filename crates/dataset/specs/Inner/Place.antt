@@ -1,8 +1,7 @@
 -- For inner contracts; no part of what a reader has to believe: what the walk for two tags makes of one element more; and facts of a place.
 -- Assumes nothing.
-use Rattle.std.specs.Prelude.{ℕ, ◌≤◌, ◌<◌, Bool, true, false, not, List, eqb, length}
+use Rattle.std.specs.Prelude.{ℕ, ◌≤◌, ◌<◌, Bool, true, false, not, List, eqb, length, if◌then◌else◌}
 use Rattle.std.proofs.Math.Option.{Option}
-use Rattle.slices.specs.If.{if◌then◌else◌}
 use Rattle.dataset.specs.Tree.{Element}
 use Rattle.dataset.specs.Vr.{SQ}
 use Rattle.dataset.specs.Place.{Lies, Placed}

@@ -5,7 +5,6 @@ use mathlib.Core.Bool.{Bool, true, false}
 use mathlib.Core.List.{List, [], ◌∷◌}
 use borrow.Author.Tests.{eq-eqb, ne_eqb}
 use Rattle.answer.specs.declared.Answer.{Answer}
-use Rattle.slices.specs.If.{if◌then◌else◌}
 use Rattle.dataset.specs.declared.lookup.Found.{Found}
 use Rattle.digest.specs.Running.{feeding, finishing}
 use Rattle.digest.specs.Sha256.{sha256}
@@ -65,11 +64,9 @@ looked-up f g words p e q k = rw (← e) record { answers = q; parts = rw k }
 -- ---- the digest
 module _ (a : Answer) (digest before : List ℕ) where
   written : a.number ≡ 0 → digest ≡ digest_after a digest before
-  unfolding if◌then◌else◌
   written h = rw (eq-eqb a.number 0 h)
 
   kept : (a.number ≡ 0 → ⊥) → before ≡ digest_after a digest before
-  unfolding if◌then◌else◌
   kept h = rw (ne_eqb a.number 0 h)
 
 module _ (h g : Hashed) (e : g ≡ h) (before words : List ℕ) (q : words ≡ answer_words g.answer) where

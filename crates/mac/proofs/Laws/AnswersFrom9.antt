@@ -7,7 +7,6 @@ use mathlib.Core.Option.{Option}
 use native.Mathlib.Omega.{arith}
 use lib.Dec.{ltb}
 use lib.ListN.{length}
-use Rattle.slices.specs.If.{if◌then◌else◌}
 use Rattle.answer.specs.Answer.{accepted}
 use Rattle.answer.proofs.Laws.OrElse.{or-else-second, both-accepted, passed}
 use Rattle.stream.specs.Walk.{answer_from16}
@@ -27,5 +26,5 @@ module _ (stream : List ℕ) (room : ℕ) (expected : Option (List ℕ)) where
       record { digest = passed (bad_digest_length expected) 9 0 (λ z. omega arith) k.first; fits = from16-accepts stream room k.second }
 
   pub from9-accepted : From9Accepts stream room expected → answer_from9 stream room expected ≡ accepted (length stream)
-  unfolding answer_from9 if◌then◌else◌
+  unfolding answer_from9
   from9-accepted a = or-else-second _ _ (rw a.digest) ∙ from16-accepted stream room a.fits

@@ -1,4 +1,5 @@
 -- What a call in either mode answers and leaves, by what the walk over what is signed answers. Assumes nothing.
+use Rattle.std.proofs.Common.{if◌then◌else◌}
 use Prim.Native.Nat.{ℕ, ◌+◌, ◌≤◌}
 use mathlib.Core.Path.{◌≡◌, refl, sym, ap, ◌∙◌}
 use mathlib.Core.List.{List}
@@ -7,7 +8,6 @@ use mathlib.Core.Option as Opt
 use native.Mathlib.Omega.{arith}
 use lib.ListN.{length}
 use borrow.Author.Tests.{ne_eqb}
-use Rattle.slices.specs.If.{if◌then◌else◌}
 use Rattle.answer.specs.declared.Answer.{Answer}
 use Rattle.answer.specs.Answer.{accepted, refused, ◌or_else◌}
 use Rattle.answer.proofs.Laws.OrElse.{refused-first}
@@ -26,7 +26,6 @@ use Rattle.mac.specs.declared.verdict.ExpectedLength.{ExpectedLength}
 
 -- ---- 9
 nine : (of : Algorithm) (expected : Option (List ℕ)) → (if bad_digest_length expected then refused 9 0 else accepted 0) ≡ length_answer of (length_of expected)
-unfolding if◌then◌else◌
 nine of Opt.none = refl
 nine algorithm.Sha256 (some e) = refl
 
@@ -38,7 +37,7 @@ module _ (first : Answer) (stream : List ℕ) where
   -- a refusal up to 15
   pub call-refused : (given : ExpectedLength) (most : ℕ) (out : List ℕ) (a : Answer) → a ≡ first → (a.number ≡ 0 → ⊥)
       → CallAnswered (call_of first stream (length out)) given most out a out
-  unfolding output_after left_in if◌then◌else◌
+  unfolding output_after left_in
   call-refused given most out a e h =
       let q : (expected : Option (List ℕ)) → a ≡ (first or_else answer_from9 stream (length out) expected) = λ expected. refused-first a first _ e h in
       record {

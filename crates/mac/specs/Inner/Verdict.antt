@@ -1,9 +1,8 @@
 -- For inner contracts; no part of what a reader has to believe: the check, by the answer of its stream.
 -- Assumes nothing.
-use Rattle.std.specs.Prelude.{ℕ, ◌≡◌, not, List, eqb, length, take}
+use Rattle.std.specs.Prelude.{ℕ, ◌≡◌, not, List, eqb, length, take, if◌then◌else◌}
 use Rattle.std.proofs.Math.Option.{Option, some}
 use Rattle.std.proofs.Math.Option as Opt
-use Rattle.slices.specs.If.{if◌then◌else◌}
 use Rattle.answer.specs.declared.Answer.{Answer}
 use Rattle.answer.specs.Answer.{accepted, refused}
 use Rattle.digest.specs.Message.{hashing}

@@ -1,4 +1,5 @@
 -- Places: the values and the items that stand in them, and what `seek` and `find_item_under` say of them. Assumes nothing.
+use Rattle.std.proofs.Common.{if◌then◌else◌}
 use borrow.Author.Tests.{eq-eqb, ne_eqb}
 use Prim.Native.Nat.{ℕ, ◌≤◌, ◌<◌, ◌-◌}
 use mathlib.Core.Path.{◌≡◌, refl, ap}
@@ -8,7 +9,6 @@ use mathlib.Core.Option as Opt
 use native.Mathlib.Omega.{arith}
 use lib.Dec.{eqb}
 use lib.ListN.{length, take, drop}
-use Rattle.slices.specs.If.{if◌then◌else◌}
 use Rattle.slices.specs.Lists.{between}
 use Rattle.dataset.specs.Tree.{Element, Elements}
 use Rattle.dataset.specs.Reading.{Reading, fault, read, answer_of}
@@ -72,11 +72,10 @@ module _ (A : Type 0) (want : ℕ) (test : Option (List ℕ) → A) (d : List �
 
   module _ (vr start end : ℕ) (is : p ≡ place.Value vr start end) where
     pub test-other : (vr ≡ want → ⊥) → r ≡ test Opt.none → Tests A want test d p r
-    unfolding if◌then◌else◌
     test-other h w = record { says = λ o q. rw (value-at d p vr start end is want o q, ne_eqb vr want h) w }
 
     pub test-value : vr ≡ want → r ≡ test (some (take (end - start) (drop start d))) → Tests A want test d p r
-    unfolding if◌then◌else◌ between
+    unfolding between
     test-value h w = record { says = λ o q. rw (value-at d p vr start end is want o q, eq-eqb vr want h) w }
 
 -- ---- where an element stands

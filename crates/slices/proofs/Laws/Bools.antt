@@ -1,11 +1,10 @@
 -- What follows from the value of a test. Assumes nothing.
+use Rattle.std.proofs.Common.{if◌then◌else◌}
 use mathlib.Core.Path.{◌≡◌, refl}
 use mathlib.Core.Bool.{Bool, true, false, ◌&&◌, ◌||◌, true≢false, false≢true}
-use Rattle.slices.specs.If.{if◌then◌else◌}
 
 -- a property of both arms, each where its test holds, is one of the choice
 pub choose : {A : Type 0} (P : A → Type 0) (b : Bool) {x y : A} → (b ≡ true → P x) → (b ≡ false → P y) → P (if b then x else y)
-unfolding if◌then◌else◌
 choose P true f g = f refl
 choose P false f g = g refl
 

@@ -1,7 +1,6 @@
 -- For inner contracts; no part of what a reader has to believe: the walk over the signature item's own elements.
 -- Assumes nothing.
-use Rattle.std.specs.Prelude.{ℕ, ◌||◌, List}
-use Rattle.slices.specs.If.{if◌then◌else◌}
+use Rattle.std.specs.Prelude.{ℕ, ◌||◌, List, if◌then◌else◌}
 use Rattle.dataset.specs.Tree.{Elements}
 use Rattle.dataset.specs.Extent.{elements_in}
 use Rattle.stream.specs.Inner.Writer.{walked, holds_none, Walk}

@@ -2,9 +2,8 @@
 -- its reading, or what was read; where the reading is good it leaves the stream in the output. A byte past the end of the output is not
 -- written, so that a walk with an empty output measures.
 -- Assumes nothing.
-use Rattle.std.specs.Prelude.{ℕ, ◌+◌, ◌≡◌, Bool, false, List, [], length}
+use Rattle.std.specs.Prelude.{ℕ, ◌+◌, ◌≡◌, Bool, false, List, [], length, if◌then◌else◌}
 use Rattle.std.proofs.lemmas.List.Edits.{sets}
-use Rattle.slices.specs.If.{if◌then◌else◌}
 use Rattle.dataset.specs.Header.{ElementHeader, element_at}
 use Rattle.dataset.specs.Tree.{tag_of}
 use Rattle.dataset.specs.Reading.{Reading, fault, read, One, ended, element, explicit, by_header, elements_at, items_at, fragments_at, one_at}

@@ -1,10 +1,10 @@
 -- An extent that does not lie inside the data, by what `outside_answer` says of it: its first header refuses it. Assumes nothing.
+use Rattle.std.proofs.Common.{if◌then◌else◌}
 use Prim.Native.Nat.{ℕ}
 use mathlib.Core.Path.{◌≡◌, refl, sym, ap, ◌∙◌}
 use mathlib.Core.Bool.{Bool, true, false}
 use mathlib.Core.List.{List}
 use native.Mathlib.Omega.{arith}
-use Rattle.slices.specs.If.{if◌then◌else◌}
 use Rattle.answer.specs.declared.Answer.{Answer}
 use Rattle.answer.specs.Answer.{accepted}
 use Rattle.dataset.specs.Header.{fault_at, outside}
@@ -18,11 +18,11 @@ use Rattle.dataset.proofs.Laws.Reading.Outcomes.{outside-refused}
 -- ---- the two returns of `outside_answer`; b says whether the extent is outside
 module _ (d : List ℕ) (x : Extent) (b : Bool) (e : b ≡ outside d x.stop x.from) (a : Answer) where
   pub is-outside : b ≡ true → a ≡ fault_at 2 x.from → a ≡ outside_answer d x
-  unfolding outside_answer if◌then◌else◌
+  unfolding outside_answer
   is-outside t q = q ∙ rw (← e, t)
 
   pub is-inside : b ≡ false → a ≡ accepted 0 → a ≡ outside_answer d x
-  unfolding outside_answer if◌then◌else◌
+  unfolding outside_answer
   is-inside t q = q ∙ rw (← e, t)
 
 -- ---- what its answer says
@@ -31,7 +31,7 @@ module _ (d : List ℕ) (x : Extent) (a : Answer) (e : a ≡ outside_answer d x)
   answers b = if b then fault_at 2 x.from else accepted 0
 
   pub outside-fault : (a.number ≡ 0 → ⊥) → elements_in d x ≡ fault a
-  unfolding outside_answer if◌then◌else◌
+  unfolding outside_answer
   outside-fault h = go (outside d x.stop x.from) refl e
     where
       go : (b : Bool) → outside d x.stop x.from ≡ b → a ≡ answers b → elements_in d x ≡ fault a
@@ -39,7 +39,7 @@ module _ (d : List ℕ) (x : Extent) (a : Answer) (e : a ≡ outside_answer d x)
       go false t q = absurd (h (ap (λ (y : Answer). y.number) q))
 
   pub inside-lies : a.number ≡ 0 → Lies d x
-  unfolding outside_answer if◌then◌else◌
+  unfolding outside_answer
   inside-lies h = go (outside d x.stop x.from) refl e
     where
       go : (b : Bool) → outside d x.stop x.from ≡ b → a ≡ answers b → Lies d x
@@ -48,7 +48,7 @@ module _ (d : List ℕ) (x : Extent) (a : Answer) (e : a ≡ outside_answer d x)
 
 -- where what is read is no fault the extent lies inside the data
 pub read-lies : (d : List ℕ) (x : Extent) → (answer_of (elements_in d x)).number ≡ 0 → Lies d x
-unfolding outside_answer if◌then◌else◌
+unfolding outside_answer
 read-lies d x h = go (outside d x.stop x.from) refl
   where
     go : (b : Bool) → outside d x.stop x.from ≡ b → Lies d x

@@ -1,5 +1,6 @@
 -- Rules by which `search` follows a chain of checks, `if b then x else if ..`, from the tests that a place of the code has. Assumes
 -- nothing.
+use Rattle.std.proofs.Common.{if◌then◌else◌}
 use Prim.Native.Nat.{ℕ, ◌+◌, ◌-◌, ◌%◌, ◌<◌, ◌≤◌}
 use mathlib.Core.List.{List}
 use mathlib.Core.Path.{◌≡◌, sym, ◌∙◌}
@@ -8,7 +9,6 @@ use lib.Dec.{ltb, eqb}
 use native.Mathlib.Omega.{arith}
 use lib.ListN.{length}
 use borrow.Author.Tests.{ltb-false, lt-ltb, le-ltb, eq-eqb, ne_eqb}
-use Rattle.slices.specs.If.{if◌then◌else◌}
 use Rattle.dataset.specs.Header.{ElementHeader, ItemHeader, outside, long_at, by_form, vr_on_at, value_by, item_by}
 use Rattle.dataset.specs.Bytes.{num16, num32, tag_at, vr_at}
 use Rattle.dataset.specs.Vr.{form_of}
@@ -17,20 +17,16 @@ use Rattle.dataset.specs.declared.vr.Form.{Form}
 use Rattle.dataset.specs.declared.vr.Form.TheVariants.{Short, Long, Neither}
 
 pub took : {A : Type 0} (b : Bool) (x y z : A) → b ≡ true → z ≡ x → z ≡ (if b then x else y)
-unfolding if◌then◌else◌
 took b x y z e q = rw e q
 
 pub skip : {A : Type 0} (b : Bool) (x y z : A) → b ≡ false → z ≡ y → z ≡ (if b then x else y)
-unfolding if◌then◌else◌
 skip b x y z e q = rw e q
 
 -- a test that is an if itself
 pub if-true : {A : Type 0} (b : Bool) (x y v : A) → b ≡ true → x ≡ v → (if b then x else y) ≡ v
-unfolding if◌then◌else◌
 if-true b x y v e q = rw e q
 
 pub if-false : {A : Type 0} (b : Bool) (x y v : A) → b ≡ false → y ≡ v → (if b then x else y) ≡ v
-unfolding if◌then◌else◌
 if-false b x y v e q = rw e q
 
 pub not_t : (b : Bool) → b ≡ false → not b ≡ true

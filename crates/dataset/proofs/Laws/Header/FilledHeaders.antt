@@ -1,5 +1,6 @@
 -- What a header is answered where something fills its extent: the chains of checks, followed from what stands there (specs/Order.antt).
 -- Assumes nothing.
+use Rattle.std.proofs.Common.{if◌then◌else◌}
 use Prim.Native.Nat.{ℕ, ◌+◌, ◌-◌, ◌%◌, ◌≤◌, ◌<◌}
 use mathlib.Core.Path.{◌≡◌, refl, ap}
 use mathlib.Core.Logic.{◌≢◌}
@@ -9,7 +10,6 @@ use native.Mathlib.Omega.{arith}
 use borrow.Author.Tests.{le-ltb, eq-eqb, ne_eqb}
 use lib.ListN.{length}
 use lib.Dec.{ltb, eqb}
-use Rattle.slices.specs.If.{if◌then◌else◌}
 use Rattle.dataset.specs.Bytes.{num16, num32, tag_at}
 use Rattle.slices.specs.Lists.{OfBytes}
 use Rattle.dataset.specs.Vr.{form_of, OB, SQ}
@@ -137,7 +137,7 @@ module _ (tag left stop at start : ℕ) where
       let e = h.1 in
       skip (bad_length SQ n) (ElementHeader.refused 7 at) _ z (if-true (eqb n undefined) _ _ false (eq-eqb n undefined h.0) refl)
       (skip (eqb left 0) (ElementHeader.refused 8 at) _ z (ne_eqb left 0 λ x. omega arith)
-      (took (eqb n undefined) _ _ z (eq-eqb n undefined h.0) (took true _ _ z refl (rw e))))
+      (took (eqb n undefined) _ _ z (eq-eqb n undefined h.0) (rw e)))
   sequence-by n end false o i h =
       let z = ElementHeader.sequence tag start end false in
       let e = h.1 in
@@ -146,15 +146,14 @@ module _ (tag left stop at start : ℕ) where
       (skip (eqb left 0) (ElementHeader.refused 8 at) _ z (ne_eqb left 0 λ x. omega arith)
       (skip (eqb n undefined) _ _ z (even-defined n h.0).0
       (skip (ltb (stop - start) n) (ElementHeader.refused 2 at) _ z (le-ltb (stop - start) n (omega arith))
-      (took true _ _ z refl (rw e)))))
+      (rw e))))
 
   fragments-by : (n : ℕ) → n ≡ undefined → ElementHeader.fragments tag start ≡ value_by tag OB left stop at start n
   unfolding value_by undefined_by too_deep bad_length
   fragments-by n u =
       let z = ElementHeader.fragments tag start in
       skip (bad_length OB n) (ElementHeader.refused 7 at) _ z (if-true (eqb n undefined) _ _ false (eq-eqb n undefined u) refl)
-      (skip false (ElementHeader.refused 8 at) _ z refl
-      (took (eqb n undefined) _ _ z (eq-eqb n undefined u) (skip false _ _ z refl refl)))
+      (took (eqb n undefined) _ _ z (eq-eqb n undefined u) refl)
 
 -- ---- what an element that fills its extent is answered
 module _ (d : List ℕ) (b : OfBytes d) (delimited : Bool) (left stop at least tag : ℕ) (l : stop ≤ length d) (o : least ≤ tag) where

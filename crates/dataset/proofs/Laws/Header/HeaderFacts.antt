@@ -9,7 +9,6 @@ use native.Mathlib.Omega.{arith}
 use borrow.Author.Tests.{ltb-false, eqb-true, eqb-false, not-true, not-false}
 use lib.ListN.{length}
 use lib.Dec.{ltb, eqb}
-use Rattle.slices.specs.If.{if◌then◌else◌}
 use Rattle.dataset.specs.Bytes.{num16, num32, tag_at, vr_at}
 use Rattle.dataset.specs.Vr.{form_of, one_of, OB, SQ}
 use Rattle.dataset.specs.Header.{ElementHeader, ItemHeader, undefined, outside, bad_length, too_deep, undefined_by, defined_by, value_by, long_at, by_form, vr_on_at, item_by, ends_at, closed_by, element_at, item_at}
@@ -70,22 +69,22 @@ pub value-start : (d : List ℕ) (stop at tag vr start end : ℕ) → ValueAt d 
 value-start d stop at tag vr start end v = sized-start (form_of vr) d at start (end - start) v.form
 
 pub sq-long : form_of SQ ≡ Long
-unfolding form_of one_of if◌then◌else◌
+unfolding form_of one_of
 sq-long = refl
 
 pub ob-long : form_of OB ≡ Long
-unfolding form_of one_of if◌then◌else◌
+unfolding form_of one_of
 ob-long = refl
 
 undefined-ob : (vr len : ℕ) → bad_length vr len ≡ false → eqb len undefined ≡ true → eqb vr SQ ≡ false → eqb vr OB ≡ true
-unfolding bad_length if◌then◌else◌
+unfolding bad_length
 undefined-ob vr len b u s = not-false (eqb vr OB) (rw (u, s) at b)
 
 not-one : (n : ℕ) → n % 2 ≢ 1 → n % 2 ≡ 0
 not-one n h = omega arith
 
 defined-even : (vr len : ℕ) → bad_length vr len ≡ false → eqb len undefined ≡ false → len % 2 ≡ 0
-unfolding bad_length if◌then◌else◌
+unfolding bad_length
 defined-even vr len b u = let z : len % 2 ≢ 1 = eqb-false (len % 2) 1 (rw u at b) in not-one len z
 
 level : (vr left : ℕ) → too_deep vr left ≡ false → eqb vr SQ ≡ true → 0 < left

@@ -1,4 +1,5 @@
 -- What one turn of `find`'s loop does, with the facts of the place as premises; and where what is found lies. Assumes nothing.
+use Rattle.std.proofs.Common.{if◌then◌else◌}
 use Prim.Native.Nat.{ℕ, ◌+◌, ◌-◌, ◌≤◌, ◌<◌}
 use mathlib.Core.Path.{◌≡◌, refl, sym, ◌∙◌, subst}
 use mathlib.Core.Bool.{Bool, true, false}
@@ -9,7 +10,6 @@ use lib.ListN.{length}
 use lib.Dec.{eqb}
 use Rattle.answer.specs.declared.Answer.{Answer}
 use Rattle.answer.specs.Answer as answer
-use Rattle.slices.specs.If.{if◌then◌else◌}
 use Rattle.dataset.specs.Tree.{Element, Elements, none, and, tag_of, span_of}
 use Rattle.dataset.proofs.Laws.Reading.Lies.{ElementsLie}
 use Rattle.dataset.specs.Reading.{Reading, fault, read, ◌>>=◌, ended, element, explicit, by_one, elements_at, one_at, size_limit, size_answer, levels, data_set, handed_on, one_case}
@@ -42,12 +42,12 @@ pub present-is : (a : Answer) (start end : ℕ) → a ≡ answer.accepted 0 → 
 present-is a start end e = rw e
 
 start-same : (size tag : ℕ) (p : Reading Elements) → found_in size tag p ≡ with_before size tag (nothing size) p
-unfolding found_in with_before or_next if◌then◌else◌
+unfolding found_in with_before or_next
 start-same size tag (fault g) = refl
 start-same size tag (read es n) = refl
 
 pub find-start : (d : List ℕ) (tag : ℕ) (a : Answer) (f : Found) → a ≡ answer.accepted 0 → f ≡ absent a (length d) → FindLoop d tag 0 0 f
-unfolding or_next if◌then◌else◌
+unfolding or_next
 find-start d tag a f e g =
     let h : f ≡ nothing (length d) = g ∙ rw e in
     rw h record { inside = omega arith; same = start-same (length d) tag (elements_at explicit d false levels (length d) 0 0); kept = refl }
@@ -55,7 +55,7 @@ find-start d tag a f e g =
 -- ---- one element more, in front of what is left
 module _ (f g : Found) (y : g.present ≡ true) where
   kept_next : (hit : Bool) (o : Found) → or_next f true o ≡ f → or_next (or_next f hit g) true o ≡ or_next f hit g
-  unfolding or_next if◌then◌else◌
+  unfolding or_next
   kept_next hit o k = go f.present hit refl
     where
       go : (b h : Bool) → f.present ≡ b → or_next (if b then f else if h then g else f) true o ≡ (if b then f else if h then g else f)
@@ -64,7 +64,7 @@ module _ (f g : Found) (y : g.present ≡ true) where
       go false false e = k
 
   front : (hit : Bool) (o : Found) → or_next f true (if hit then g else o) ≡ or_next (or_next f hit g) true o
-  unfolding or_next if◌then◌else◌
+  unfolding or_next
   front hit o = go f.present hit refl
     where
       go : (b h : Bool) → f.present ≡ b → (if b then f else if h then g else o) ≡ or_next (if b then f else if h then g else f) true o
@@ -74,7 +74,7 @@ module _ (f g : Found) (y : g.present ≡ true) where
 
 found-if : (size : ℕ) (hit : Bool) (e : Element) (o : Option Element)
     → found_of size (if hit then some e else o) ≡ (if hit then present (span_of e).start (span_of e).end else found_of size o)
-unfolding found_of if◌then◌else◌
+unfolding found_of
 found-if size true e o = refl
 found-if size false e o = refl
 
@@ -142,7 +142,7 @@ Inside : List ℕ → Found → Type 0
 Inside d f = f.start + f.length ≤ length d
 
 find-inside : (es : Elements) (tag : ℕ) (d : List ℕ) (left least at next : ℕ) → ElementsLie es d left least at next → Inside d (found_of (length d) (element_of tag es))
-unfolding ElementsLie element_of Inside found_of if◌then◌else◌
+unfolding ElementsLie element_of Inside found_of
 find-inside none tag d left least at next r = omega arith
 find-inside (and e es) tag d left least at next r =
     let s = span-inside e d left at r.0 r.2 in

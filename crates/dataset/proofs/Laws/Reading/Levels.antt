@@ -1,4 +1,5 @@
 -- The levels left: they fall from a sequence to its items, and a number above 16 counts as 16. Assumes nothing.
+use Rattle.std.proofs.Common.{if◌then◌else◌}
 use Prim.Native.Nat.{ℕ, zero, suc, ◌-◌, ◌≤◌, ◌<◌}
 use mathlib.Core.Path.{◌≡◌, refl}
 use mathlib.Core.Bool.{Bool, true, false}
@@ -6,7 +7,6 @@ use mathlib.Core.List.{List}
 use native.Mathlib.Omega.{arith}
 use lib.Dec.{ltb}
 use borrow.Author.Tests.{ltb-true, ltb-false, lt-ltb, le-ltb, ne_eqb}
-use Rattle.slices.specs.If.{if◌then◌else◌}
 use Rattle.dataset.specs.Bytes.{tag_at, vr_at}
 use Rattle.dataset.specs.Vr.{form_of}
 use Rattle.dataset.specs.Header.{ItemHeader, too_deep, value_by, long_at, by_form, vr_on_at, element_at, item_at}
@@ -20,19 +20,19 @@ use Rattle.dataset.proofs.Laws.Reading.Unfolding.{fragment-same, header-same}
 
 -- ---- what the code of `deeper` answers
 pub deeper-over : (left : ℕ) → levels < left → 15 ≡ deeper left
-unfolding deeper if◌then◌else◌
+unfolding deeper
 deeper-over left h = rw (lt-ltb levels left h)
 
 pub deeper-least : (left : ℕ) → left ≡ 0 → 0 ≡ deeper left
-unfolding deeper if◌then◌else◌
+unfolding deeper
 deeper-least left h = rw h
 
 pub deeper-less : (left : ℕ) → left ≤ levels → left - 1 ≡ deeper left
-unfolding deeper if◌then◌else◌
+unfolding deeper
 deeper-less left h = rw (le-ltb levels left h)
 
 pub deeper-falls : (left : ℕ) → 0 < left → deeper left < left
-unfolding deeper if◌then◌else◌
+unfolding deeper
 deeper-falls left h = go (ltb levels left) refl
   where
     go : (b : Bool) → ltb levels left ≡ b → (if b then levels else left) - 1 < left
@@ -56,7 +56,7 @@ module _ (left : ℕ) (h : levels ≤ left) where
   same-header d delimited stop at least = rw (same-form (form_of (vr_at d at)) d (tag_at d at) (vr_at d at) stop at)
 
   same-deeper : deeper left ≡ deeper levels
-  unfolding deeper if◌then◌else◌
+  unfolding deeper
   same-deeper = go (ltb levels left) refl
     where
       go : (b : Bool) → ltb levels left ≡ b → (if b then levels else left) - 1 ≡ 15

@@ -10,7 +10,6 @@ use lib.ListN.{length}
 use borrow.Author.Tests.{ltb-true, ltb-false, lt-ltb, le-ltb, ne_eqb}
 use Rattle.answer.specs.declared.Answer.{Answer}
 use Rattle.answer.specs.Answer as answer
-use Rattle.slices.specs.If.{if◌then◌else◌}
 use Rattle.dataset.specs.Header.{fault_at, item_case, item_at}
 use Rattle.dataset.specs.Reading.{fault, read, ended, element, explicit, by_one, by_item, by_fragment, fragments_at, elements_at, items_at, one_at, size_limit, size_answer, unless_refused, levels, deeper, data_set, answer_of, handed_on, one_case}
 use Rattle.dataset.specs.Inner.Outcomes.{outcome_of, one_outcome_of}
@@ -159,19 +158,19 @@ elements-fall left l t h e q = let k = deeper-falls left h in omega (arith, k, e
 
 -- ---- a whole data set
 pub size-within : (d : List ℕ) → length d ≤ size_limit → size_answer d ≡ answer.accepted 0
-unfolding size_answer if◌then◌else◌
+unfolding size_answer
 size-within d h = rw (le-ltb size_limit (length d) h)
 
 pub size-over : (d : List ℕ) → size_limit < length d → size_answer d ≡ answer.refused 1 0
-unfolding size_answer if◌then◌else◌
+unfolding size_answer
 size-over d h = rw (lt-ltb size_limit (length d) h)
 
 pub data-set-is : (d : List ℕ) → length d ≤ size_limit → data_set d ≡ elements_at explicit d false levels (length d) 0 0
-unfolding data_set unless_refused if◌then◌else◌
+unfolding data_set unless_refused
 data-set-is d h = rw (size-within d h)
 
 pub data-set-over : (d : List ℕ) → size_limit < length d → data_set d ≡ fault (answer.refused 1 0)
-unfolding data_set unless_refused if◌then◌else◌
+unfolding data_set unless_refused
 data-set-over d h = rw (size-over d h)
 
 -- ---- `size_answer`, and what follows of what it answers
@@ -192,7 +191,7 @@ module _ (d : List ℕ) (a : Answer) (e : a ≡ size_answer d) where
           absurd (omega arith)
 
   pub size-refused : (a.number ≡ 0 → ⊥) → data_set d ≡ fault a
-  unfolding data_set unless_refused if◌then◌else◌
+  unfolding data_set unless_refused
   size-refused h = rw (← e, ne_eqb a.number 0 h)
 
   pub read-over : (a.number ≡ 0 → ⊥) → a ≡ answer_of (data_set d)

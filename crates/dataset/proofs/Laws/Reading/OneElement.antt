@@ -1,5 +1,6 @@
 -- What each place of the reader of one element does, with the facts of the place as premises: `search` applies these laws where the code
 -- has the facts. Assumes nothing.
+use Rattle.std.proofs.Common.{if◌then◌else◌}
 use Prim.Native.Nat.{ℕ, ◌-◌, ◌≤◌, ◌<◌}
 use mathlib.Core.Path.{◌≡◌, refl, sym, ap, ◌∙◌}
 use mathlib.Core.Bool.{Bool, true, false, true≢false}
@@ -7,7 +8,6 @@ use mathlib.Core.List.{List}
 use native.Mathlib.Omega.{arith}
 use lib.ListN.{length}
 use Rattle.answer.specs.declared.Answer.{Answer}
-use Rattle.slices.specs.If.{if◌then◌else◌}
 use Rattle.dataset.specs.Vr.{OB, SQ}
 use Rattle.dataset.specs.Header.{fault_at, element_case, element_at}
 use Rattle.dataset.specs.Header as spec
@@ -40,12 +40,12 @@ holding-refused tag vr start delimited o f e = rw e
 
 pub holding-delimited : (tag vr start : ℕ) (delimited : Bool) (o : Outcome) (n : ℕ) → o ≡ outcome.Next n → delimited ≡ true
     → one.Element tag vr start (n - 8) n ≡ holding_of tag vr start delimited o
-unfolding holding_of if◌then◌else◌
+unfolding holding_of
 holding-delimited tag vr start delimited o n e t = rw (e, t)
 
 pub holding-defined : (tag vr start : ℕ) (delimited : Bool) (o : Outcome) (n : ℕ) → o ≡ outcome.Next n → delimited ≡ false
     → one.Element tag vr start n n ≡ holding_of tag vr start delimited o
-unfolding holding_of if◌then◌else◌
+unfolding holding_of
 holding-defined tag vr start delimited o n e t = rw (e, t)
 
 pub past_room : (o : Outcome) (n : ℕ) → PastDelimiter o → o ≡ outcome.Next n → 8 ≤ n
@@ -131,7 +131,7 @@ module _ (d : List ℕ) (delimited : Bool) (left stop at least : ℕ) (r : Eleme
           omega (arith, k.1.starts, m.0)
 
       pub parts-one : (z : OneOutcome) → z ≡ holding_of tag OB start true o → one_case z ≡ handed_on (one_at explicit d delimited left stop at least)
-      unfolding by_header if◌then◌else◌
+      unfolding by_header
       parts-one z e =
           answers z (e ∙ rw (w, one-is (header.Fragments tag start) q)
           (holding-is tag OB start true (fragments_at explicit d left stop start) _ λ i n. refl))

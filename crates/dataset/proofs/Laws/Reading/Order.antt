@@ -1,12 +1,12 @@
 -- What fills an extent lies in it; and where the parts of a tree end: after where they start, inside the data set, an even number of bytes
 -- on. Assumes nothing.
+use Rattle.std.proofs.Common.{if◌then◌else◌}
 use Prim.Native.Nat.{ℕ, ◌+◌, ◌-◌, ◌%◌, ◌≤◌, ◌<◌}
 use mathlib.Core.Path.{◌≡◌, refl}
 use mathlib.Core.Bool.{Bool, true, false, true≢false, false≢true}
 use mathlib.Core.List.{List, [], ◌∷◌}
 use native.Mathlib.Omega.{arith}
 use lib.ListN.{length}
-use Rattle.slices.specs.If.{if◌then◌else◌}
 use Rattle.dataset.specs.Vr.{form_of, OB, SQ}
 use Rattle.dataset.specs.Reading.{deeper}
 use Rattle.dataset.specs.Tree.{Span, Element, value, sequence, fragments, Elements, none, and, Items, last, item, tag_of, span_of}
@@ -87,7 +87,6 @@ nest-in d stop at tag vr start l v =
     record { tagged = v.tagged; letters = v.letters; reserved = v.reserved; starts = v.starts; inside = omega (arith, v.inside) }
 
 span-closes : (delimited : Bool) (s : Span) (n : ℕ) → s.end ≡ (if delimited then n - 8 else n) → s.start ≤ n → (delimited ≡ true → s.start + 8 ≤ n) → Closes s n
-unfolding if◌then◌else◌
 span-closes true s n e h f = let k = f refl in record { order = omega arith; inside = omega arith }
 span-closes false s n e h f = record { order = omega arith; inside = omega arith }
 
@@ -106,7 +105,7 @@ parts_in (s ∷ ss) d stop at n l r =
     }
 
 mutual
-  unfolding ElementFills ElementLies if◌then◌else◌
+  unfolding ElementFills ElementLies
 
   pub element-in : (e : Element) (d : List ℕ) (left stop least at n : ℕ) → stop ≤ length d → least ≤ tag_of e → ElementFills e d left stop at n
       → ElementIn d left stop least at e n

@@ -5,7 +5,6 @@ use mathlib.Core.Bool.{Bool, true, true≢false}
 use mathlib.Core.List.{List}
 use native.Mathlib.Omega.{arith}
 use Rattle.answer.specs.declared.Answer.{Answer}
-use Rattle.slices.specs.If.{if◌then◌else◌}
 use Rattle.dataset.specs.Header.{fault_at, outside, element_at}
 use Rattle.dataset.specs.Tree.{Span, span, Element, tag_of, vr_of, span_of}
 use Rattle.dataset.specs.Reading.{Reading, fault, read, ◌>>=◌, One, ended, element, explicit, by_header, elements_by, fragments_at, elements_at, items_at, Outline, handed_on, one_case}
@@ -112,5 +111,5 @@ is-element (read (element x) m) tag vr start end next e =
 
 -- ---- an extent that does not lie inside the data: its first header refuses it
 pub outside-refused : (d : List ℕ) (delimited : Bool) (left stop at least : ℕ) → outside d stop at ≡ true → elements_at explicit d delimited left stop at least ≡ fault (fault_at 2 at)
-unfolding elements_at elements_by element_at by_header if◌then◌else◌
+unfolding elements_at elements_by element_at by_header
 outside-refused d delimited left stop at least e = rw e

@@ -1,4 +1,5 @@
 -- Where an element lies by what its reader hands on, what follows of where it lies, and what follows of what `seek` answers. Assumes nothing.
+use Rattle.std.proofs.Common.{if◌then◌else◌}
 use Prim.Native.Nat.{ℕ, ◌-◌, ◌≤◌, ◌<◌}
 use mathlib.Core.Path.{◌≡◌, refl, sym, ap}
 use mathlib.Core.Bool.{Bool, true, false, true≢false}
@@ -8,7 +9,6 @@ use mathlib.Core.Option as Opt
 use native.Mathlib.Omega.{arith}
 use borrow.Author.Tests.{eq-eqb, ne_eqb}
 use lib.ListN.{length}
-use Rattle.slices.specs.If.{if◌then◌else◌}
 use Rattle.answer.specs.declared.Answer.{Answer}
 use Rattle.dataset.specs.Vr.{OB, SQ}
 use Rattle.dataset.specs.Header.{ElementHeader, element_at}
@@ -38,21 +38,21 @@ elements_from d x at least = elements_at explicit d x.delimited x.left x.stop at
 -- ---- `place_by`, by what the reader of one element hands on
 module _ (x : Extent) (vr start end next : ℕ) where
   pub value-place : (vr ≡ SQ → ⊥) → end ≡ next → place.Value vr start end ≡ place_by x vr start end next
-  unfolding place_by if◌then◌else◌
+  unfolding place_by
   value-place h e = rw (ne_eqb vr SQ h, eq-eqb end next e)
 
   pub fragments-place : (vr ≡ SQ → ⊥) → (end ≡ next → ⊥) → place.Fragments ≡ place_by x vr start end next
-  unfolding place_by if◌then◌else◌
+  unfolding place_by
   fragments-place h e = rw (ne_eqb vr SQ h, ne_eqb end next e)
 
   pub delimited-place : vr ≡ SQ → (end ≡ next → ⊥)
       → place.Items (record { delimited = true; left = x.left; stop = x.stop; from = start }) ≡ place_by x vr start end next
-  unfolding place_by if◌then◌else◌
+  unfolding place_by
   delimited-place h e = rw (eq-eqb vr SQ h, ne_eqb end next e)
 
   pub defined-place : vr ≡ SQ → end ≡ next
       → place.Items (record { delimited = false; left = x.left; stop = end; from = start }) ≡ place_by x vr start end next
-  unfolding place_by if◌then◌else◌
+  unfolding place_by
   defined-place h e = rw (eq-eqb vr SQ h, eq-eqb end next e)
 
 -- ---- the element at `at` lies there
@@ -61,7 +61,6 @@ module _ (d : List ℕ) (x : Extent) (at least : ℕ) (inside : x.stop ≤ lengt
   items-placed : (start stop next : ℕ) (is : Items) (inner : Bool) (n : ℕ) → HeaderExtent n x.stop start stop inner → 0 < x.left → 8 ≤ start → start ≤ stop → stop ≤ x.stop
       → items_at explicit d inner x.left stop start ≡ read is next
       → (y : Extent) × (place_by x SQ start (if inner then next - 8 else next) next ≡ place.Items y) × ItemsAre d (span start (if inner then next - 8 else next)) is y
-  unfolding if◌then◌else◌
   items-placed start stop next is true n h l k o u w =
       let m = items-next d x.left stop start next o true (sym (ap outcome_of w)) in
       let s = h.1 in (

@@ -1,5 +1,6 @@
 -- What the arms of `or_here` give, what one turn of the loop of `seek_in` does, and what `seek` refuses, with the facts of the place as premises.
 -- Assumes nothing.
+use Rattle.std.proofs.Common.{if◌then◌else◌}
 use Prim.Native.Nat.{ℕ, ◌+◌, ◌-◌, ◌≤◌, ◌<◌}
 use mathlib.Core.Path.{◌≡◌, refl, sym, ap, ◌∙◌}
 use mathlib.Core.Bool.{Bool, true, false, not, true≢false}
@@ -10,7 +11,6 @@ use native.Mathlib.Omega.{arith}
 use lib.Dec.{eqb}
 use borrow.Author.Tests.{eq-eqb, ne_eqb}
 use Rattle.answer.specs.declared.Answer.{Answer}
-use Rattle.slices.specs.If.{if◌then◌else◌}
 use Rattle.dataset.specs.Tree.{Element, Elements, tag_of}
 use Rattle.dataset.specs.Reading.{Reading, fault, read, ◌>>=◌, One, ended, element, by_one, handed_on, one_case}
 use Rattle.dataset.specs.Lookup.{element_of}
@@ -32,15 +32,15 @@ use Rattle.dataset.proofs.Laws.Seek.Places.{one_from, elements_from, placed_at, 
 -- ---- `or_here`
 module _ (p here-at : Place) (tag here : ℕ) where
   pub here-other : (here ≡ tag → ⊥) → p ≡ or_here p tag here here-at
-  unfolding or_here if◌then◌else◌
+  unfolding or_here
   here-other h = rw (ne_eqb here tag h)
 
   pub here-there : (b : Bool) → here ≡ tag → b ≡ is_there p → b ≡ true → p ≡ or_here p tag here here-at
-  unfolding or_here if◌then◌else◌
+  unfolding or_here
   here-there b h e t = rw (eq-eqb here tag h, sym e ∙ t)
 
   pub here-first : (b : Bool) → here ≡ tag → b ≡ is_there p → b ≡ false → here-at ≡ or_here p tag here here-at
-  unfolding or_here if◌then◌else◌
+  unfolding or_here
   here-first b h e t = rw (eq-eqb here tag h, sym e ∙ t)
 
 -- ---- what was found of a tag before, and what is found of it in what is left
@@ -58,7 +58,7 @@ seen tag f (read es n) = read (or_later f (element_of tag es)) n
 
 -- one element more in front
 front : (tag : ℕ) (f : Option Element) (e : Element) (es : Elements) → or_later f (element_of tag (Elements.and e es)) ≡ or_later (or_later f (hit tag e)) (element_of tag es)
-unfolding or_later hit element_of if◌then◌else◌
+unfolding or_later hit element_of
 front tag (some g) e es = refl
 front tag Opt.none e es = go (eqb (tag_of e) tag)
   where
@@ -99,7 +99,7 @@ seek-start d x tag tag' l = record { inside = l.order; first = none_yet tag; sec
 module _ (d : List ℕ) (x : Extent) (at least : ℕ) (e : Element) (next : ℕ)
     (is : one_from d x at least ≡ read (element e) next) (here-at : Place) (there : ElementPlaced d e here-at) (tag : ℕ) where
   placed_on : (f : Option Element) (p : Place) → Placed d f p → Placed d (or_later f (hit tag e)) (or_here p tag (tag_of e) here-at)
-  unfolding or_later hit or_here if◌then◌else◌
+  unfolding or_later hit or_here
   placed_on f p h = go (eqb (tag_of e) tag) f h
     where
       go : (b : Bool) (f : Option Element) → Placed d f p

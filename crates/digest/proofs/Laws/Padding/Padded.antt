@@ -1,9 +1,8 @@
 -- The waiting bytes and the padding after them: the stores that make them, and the blocks that they fill.
 -- Assumes nothing.
-use Rattle.std.proofs.Common.{◌≡◌, ℕ, zero, suc, ◌+◌, ◌-◌, ◌%◌, ◌<◌, ◌≤◌, Bool, true, false, ltb, List, [], ◌∷◌, ◌++◌, length, get_or, take, set, replicate, sym, refl, ap, ◌∙◌, ap₂, append_assoc, arith, length-append, length-take-le, take_all, take-suc, ltb-false, ltb-true}
+use Rattle.std.proofs.Common.{◌≡◌, ℕ, zero, suc, ◌+◌, ◌-◌, ◌%◌, ◌<◌, ◌≤◌, Bool, true, false, ltb, List, [], ◌∷◌, ◌++◌, length, get_or, take, set, replicate, sym, refl, ap, ◌∙◌, ap₂, append_assoc, arith, length-append, length-take-le, take_all, take-suc, ltb-false, ltb-true, if◌then◌else◌}
 use lib.ListN.{length-replicate}
 use lib.Seq.{sets, paste, paste-zero, paste-suc, take-paste, take-length, take-append-add, set-append_seam}
-use Rattle.slices.specs.If.{if◌then◌else◌}
 use Rattle.slices.proofs.Laws.Writing.{sets-append}
 use Rattle.digest.specs.Padding.{ByteOrder, bytes_of, zeros_after, padding}
 use Rattle.digest.specs.Theorems.{FewestZeros}
@@ -55,7 +54,6 @@ pub record Fills (count total n : ℕ) : Type 0 where
   pub zeros : n - 9 - count ≡ zeros_after total
 
 fills-by : (count total : ℕ) (b : Bool) → ltb count 56 ≡ b → count ≡ total % 64 → Fills count total (if b then 64 else 128)
-unfolding if◌then◌else◌
 fills-by count total true e c =
     let h : count < 56 = ltb-true count 56 e in
     record { least = omega arith; most = omega arith; zeros = omega arith }

@@ -1,8 +1,7 @@
 -- The tables of constants keep the rule of FIPS 180-4: one computed test a table, and a law that makes of the test the rule at each entry.
 -- Assumes nothing.
-use Rattle.std.proofs.Common.{◌≡◌, ℕ, zero, suc, ◌+◌, ◌*◌, ◌^◌, ◌<◌, Bool, true, ◌&&◌, ltb, leb, List, [], ◌∷◌, length, drop, refl, arith, get_or-drop, ltb-true, leb-true}
+use Rattle.std.proofs.Common.{◌≡◌, ℕ, zero, suc, ◌+◌, ◌*◌, ◌^◌, ◌<◌, Bool, true, ◌&&◌, ltb, leb, List, [], ◌∷◌, length, drop, refl, arith, get_or-drop, ltb-true, leb-true, if◌then◌else◌}
 use mathlib.Core.Bool.{and-eq-true_iff}
-use Rattle.slices.specs.If.{if◌then◌else◌}
 use Rattle.slices.specs.Lists.{at}
 use Rattle.digest.specs.Sha256.{constants, start_words}
 use Rattle.digest.specs.Constants.{RootBits, undivided, primes_below}
@@ -40,9 +39,9 @@ all-kept e ps (x ∷ xs) t (suc i) h =
     rw (get_or-drop 1 ps i 0, n) at (all-kept e (drop 1 ps) xs ((and-eq-true_iff (keeps e (at ps 0) x) _).0 t).1 i (omega arith))
 
 pub constants-rule : ConstantsRule
-unfolding constants primes_below undivided if◌then◌else◌ all_keep keeps whole_root
+unfolding constants primes_below undivided all_keep keeps whole_root
 constants-rule = record { primes = refl; table = refl; rule = all-kept 3 (primes_below 312) constants refl }
 
 pub start-words-rule : StartWordsRule
-unfolding start_words primes_below undivided if◌then◌else◌ all_keep keeps whole_root
+unfolding start_words primes_below undivided all_keep keeps whole_root
 start-words-rule = record { primes = refl; table = refl; rule = all-kept 2 (primes_below 20) start_words refl }

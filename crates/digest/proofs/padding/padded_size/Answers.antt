@@ -1,11 +1,8 @@
 use Rattle.std.proofs.Common.{le-ltb, lt-ltb}
-use Rattle.slices.specs.If.{if◌then◌else◌}
 use Rattle.digest.proofs.padding.padded_size.Goals as goal
 
 pub returns-then-count-lt56 : goal.returns-then-count-lt56
-unfolding if◌then◌else◌
 returns-then-count-lt56 c = simp (lt-ltb _ _ c.if-count-lt56.true)
 
 pub returns : goal.returns
-unfolding if◌then◌else◌
 returns c = simp (le-ltb _ _ c.if-count-lt56.false)

@@ -14,7 +14,6 @@ use lib.Seq.{take_at, length-take-le}
 use borrow.Author.Tests.{eq-eqb, ne_eqb, eqb-true, eqb-false, le-leb}
 use Rattle.answer.specs.declared.Answer.{Answer}
 use Rattle.answer.specs.Answer.{accepted, refused}
-use Rattle.slices.specs.If.{if◌then◌else◌}
 use Rattle.digest.specs.Message.{limit, digest_of, hashing}
 use Rattle.digest.specs.Sha256.{sha256}
 use Rattle.stream.specs.Walk.{left_in}
@@ -44,26 +43,22 @@ module _ (of : Algorithm) (e : ExpectedLength) (a : Answer) where
 
   module _ (n right : ℕ) (q : e ≡ expected_length.Length n) (w : right ≡ digest_length of) where
     pub length-wrong : (n ≡ right → ⊥) → a ≡ refused 9 0 → a ≡ length_answer of e
-    unfolding if◌then◌else◌
     length-wrong h k = k ∙ rw (q, ← w, ne_eqb n right h)
 
     pub length-right : n ≡ right → a ≡ accepted 0 → a ≡ length_answer of e
-    unfolding if◌then◌else◌
     length-right h k = k ∙ rw (q, ← w, eq-eqb n right h)
 
 -- ---- the verdict
 module _ (digest expected : List ℕ) (b : Bool) (e : b ≡ same_bytes digest expected) where
   pub says_same : b ≡ true → same ≡ compared (some expected) digest
-  unfolding if◌then◌else◌
   says_same t = rw (← e, t)
 
   pub says-differs : b ≡ false → differs ≡ compared (some expected) digest
-  unfolding if◌then◌else◌
   says-differs t = rw (← e, t)
 
 -- ---- a check, by the answer of its stream
 hashes : (of : Algorithm) (m : List ℕ) → length m ≤ limit → (hashing (standard of) m).digest ≡ digest_of sha256 m
-unfolding hashing if◌then◌else◌
+unfolding hashing
 hashes algorithm.Sha256 m h = rw (le-leb (length m) limit h)
 
 module _ (of : Algorithm) (a : Answer) (expected work : List ℕ) where
@@ -94,7 +89,7 @@ call-room call given work after a s k h = omega (arith, s.room h)
 module _ (call : Option (List ℕ) → Result) (d expected work after : List ℕ) (a : Answer) (s : CallAnswered call (length_of (some expected)) limit work a after) where
   -- what is digested is the stream
   digested : a.number ≡ 0 → take a.length after ≡ (call (some expected)).stream
-  unfolding output_after left_in if◌then◌else◌
+  unfolding output_after left_in
   digested h =
       let t = s.streamed (some expected) refl in
       let b = (call (some expected)).stream in
@@ -107,14 +102,14 @@ module _ (call : Option (List ℕ) → Result) (d expected work after : List ℕ
 
     -- a refused one says neither
     as-neither : (a.number ≡ 0 → ⊥) → verdict_code r.verdict ≡ neither → CheckedAs (call (some expected)) d work r after
-    unfolding verdict_of if◌then◌else◌
+    unfolding verdict_of
     as-neither h v = as_said (v ∙ rw (← (s.streamed (some expected) refl).answers, ne_eqb a.number 0 h))
 
   pub call-neither : (a.number ≡ 0 → ⊥) → (r : Checked) → r ≡ refused_check a → AllFit d → CheckedAs (call (some expected)) d work r after
   call-neither h r e b = as-neither r (rw e) b h (rw e)
 
   pub call-checked : (of : Algorithm) (r : Checked) → (call (some expected)).expected ≡ some expected → CheckOf of a expected after r → AllFit d → CheckedAs (call (some expected)) d work r after
-  unfolding verdict_of if◌then◌else◌
+  unfolding verdict_of
   call-checked of r e k b = go (eqb a.number 0) refl
     where
       go : (t : Bool) → eqb a.number 0 ≡ t → CheckedAs (call (some expected)) d work r after

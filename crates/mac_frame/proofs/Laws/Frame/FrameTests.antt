@@ -1,5 +1,6 @@
 -- The tests of the frame, as the code makes them, and what is printed.
 -- Assumes nothing.
+use Rattle.std.proofs.Common.{if◌then◌else◌}
 use Prim.Native.Nat.{ℕ, ◌+◌, ◌<◌, ◌≤◌}
 use mathlib.Core.Path.{◌≡◌, refl, sym, ap, ap₂, subst, ◌∙◌}
 use mathlib.Core.Bool.{Bool, true, false}
@@ -11,7 +12,6 @@ use borrow.Author.Tests.{lt-ltb, le-ltb, eq-eqb, ne_eqb, eqb-true, eqb-false}
 use lib.Dec.{eqb}
 use lib.ListN.{length, get_or, take}
 use Rattle.answer.specs.declared.Answer.{Answer}
-use Rattle.slices.specs.If.{if◌then◌else◌}
 use Rattle.answer.specs.Answer.{refused}
 use Rattle.slices.specs.Lists.{between}
 use Rattle.mac.specs.Result.{Streamed, is_accepted, output_after}
@@ -27,28 +27,28 @@ use Rattle.mac_frame.specs.declared.frame.Frame.TheVariants as frame
 
 module _ (s : List ℕ) where
   pub too_long : input_limit < length s → frame.Bad ≡ frame_of s
-  unfolding frame_of if◌then◌else◌
+  unfolding frame_of
   too_long h = simp (lt-ltb input_limit (length s) h)
 
   module _ (h₁ : length s ≤ input_limit) where
     pub too_short : length s < 5 → frame.Bad ≡ frame_of s
-    unfolding frame_of if◌then◌else◌
+    unfolding frame_of
     too_short h = simp (le-ltb input_limit (length s) h₁, lt-ltb (length s) 5 h)
 
     module _ (h₂ : 5 ≤ length s) where
       pub other-version : (get_or s 0 0 ≡ 1 → ⊥) → frame.Bad ≡ frame_of s
-      unfolding frame_of if◌then◌else◌
+      unfolding frame_of
       other-version h = simp (le-ltb input_limit (length s) h₁, le-ltb (length s) 5 h₂, ne_eqb (get_or s 0 0) 1 h)
 
       module _ (h₃ : get_or s 0 0 ≡ 1) (list : ℕ) (e : list ≡ big32 s 1) where
         pub list-past : length s < 9 + list → frame.Bad ≡ frame_of s
-        unfolding frame_of if◌then◌else◌
+        unfolding frame_of
         list-past h =
             simp (le-ltb input_limit (length s) h₁, le-ltb (length s) 5 h₂, eq-eqb (get_or s 0 0) 1 h₃, ← e, lt-ltb (length s) (9 + list) h)
 
         module _ (h₄ : 9 + list ≤ length s) (set : ℕ) (e' : set ≡ big32 s (5 + list)) where
           pub not-filled : (length s ≡ 9 + list + set → ⊥) → frame.Bad ≡ frame_of s
-          unfolding frame_of if◌then◌else◌
+          unfolding frame_of
           not-filled h =
               simp (
                 le-ltb input_limit (length s) h₁,
@@ -61,7 +61,7 @@ module _ (s : List ℕ) where
               )
 
           pub filled : length s ≡ 9 + list + set → frame.ListEnds (5 + list) ≡ frame_of s
-          unfolding frame_of if◌then◌else◌
+          unfolding frame_of
           filled h =
               simp (
                 le-ltb input_limit (length s) h₁,
@@ -117,7 +117,7 @@ module _ (s : List ℕ) (end : ℕ) (good : frame.ListEnds end ≡ frame_of s) w
 module _ (c : Call) (out text : List ℕ) where
   pub report-refused : (a : Answer) (r : ℕ) (after : List ℕ) → a ≡ answer c → (a.number ≡ 0 → ⊥) → Wrote text 0 (line a) r after
       → Wrote text 0 (report c) r after
-  unfolding report if◌then◌else◌
+  unfolding report
   report-refused a r after e n w =
       let f : is_accepted (result c) ≡ false = ne_eqb (answer c).number 0 (λ z. n (ap (λ (x : Answer). x.number) e ∙ z)) in
       let p : line a ≡ report c =
@@ -128,7 +128,7 @@ module _ (c : Call) (out text : List ℕ) where
   pub report-accepted : (a : Answer) (next r : ℕ) (mid after left : List ℕ) → a ≡ answer c → a.number ≡ 0
       → left ≡ output_after (result c) out → Wrote text 0 (line a) next mid
       → Wrote mid next (hex_lines (take a.length left)) r after → Wrote text 0 (report c) r after
-  unfolding report if◌then◌else◌
+  unfolding report
   report-accepted a next r mid after left e n o w v =
       let t : is_accepted (result c) ≡ true = eq-eqb (answer c).number 0 (ap (λ (x : Answer). x.number) (sym e) ∙ n) in
       let b : take a.length left ≡ stream c =

@@ -10,7 +10,6 @@ use borrow.Author.Tests.{eq-eqb, ne_eqb, eqb-true}
 use lib.Dec.{eqb}
 use lib.ListN.{length, length-append}
 use Rattle.answer.specs.declared.Answer.{Answer}
-use Rattle.slices.specs.If.{if◌then◌else◌}
 use Rattle.answer.specs.Answer.{refused}
 use Rattle.stream.specs.TagList.{tags_in}
 use Rattle.mac.specs.ListMode.{Call, answer, stream, result}
@@ -92,7 +91,7 @@ module _ (c : Call) (h : length c.list ≤ 65536) (k : length c.set ≤ 65536) (
       omega (arith, tags-most c.list)
 
   report-by : (b : Bool) → is_accepted (result c) ≡ b → length (report c) ≤ 135168
-  unfolding report if◌then◌else◌
+  unfolding report
   report-by true e =
       let l : (answer c).length ≤ c.room = within-room c (answer c) refl (eqb-true (answer c).number 0 e) in
       let m : (answer c).length ≡ length (stream c) = ap (λ (a : Answer). a.length) (answer-accepted c e) in

@@ -12,7 +12,6 @@ use borrow.Author.Tests.{lt-ltb, le-ltb, eq-eqb, ne_eqb}
 use lib.Dec.{eqb}
 use lib.ListN.{length, drop, get_or, length-append, length-drop, drop_of_length-le}
 use lib.Seq.{sets, length-sets, drop-cons}
-use Rattle.slices.specs.If.{if◌then◌else◌}
 use Rattle.answer.specs.declared.Answer.{Answer}
 use Rattle.mac_frame.specs.Text.{space, newline, digit, decimal_by, decimal, decimal_then, line, hex, is_empty, line_end, hex_from, hex_lines}
 use Rattle.mac_frame.specs.Inner.Wrote.{Wrote}
@@ -29,11 +28,11 @@ wrote_then text mid after at next r xs ys p q =
 
 -- ---- decimal
 decimal-few : (k n : ℕ) → n < 10 → decimal_by (suc k) n ≡ digit n ∷ []
-unfolding decimal_by if◌then◌else◌
+unfolding decimal_by
 decimal-few k n h = simp (lt-ltb n 10 h)
 
 decimal-many : (k n : ℕ) → 10 ≤ n → decimal_by (suc k) n ≡ decimal_by k (n / 10) ++ (digit (n % 10) ∷ [])
-unfolding decimal_by if◌then◌else◌
+unfolding decimal_by
 decimal-many k n h = simp (le-ltb n 10 h)
 
 shorter : (k m n : ℕ) → n < suc k → n < suc m → (n / 10 < k → n / 10 < m → decimal_by k (n / 10) ≡ decimal_by m (n / 10)) → Dec (n < 10)

@@ -9,7 +9,6 @@ use native.Mathlib.Omega.{arith}
 use lib.Dec.{eqb}
 use lib.ListN.{length}
 use borrow.Author.Tests.{eqb-true, ltb-false}
-use Rattle.slices.specs.If.{if◌then◌else◌}
 use Rattle.answer.specs.declared.Answer.{Answer}
 use Rattle.answer.specs.Answer.{accepted, ◌or_else◌}
 use Rattle.answer.proofs.Laws.OrElse.{or-else-second, BothAccepted, both-accepted}
@@ -64,7 +63,7 @@ accepts c h =
 
 -- the order up to 15, where the data set is read
 pub to15-read : (list set : List ℕ) → IsRead set → answer_to15 list set ≡ (list_answer list or_else tags_answer 0 (tags_in list) (tree set))
-unfolding answer_to15 if◌then◌else◌
+unfolding answer_to15
 to15-read list set r =
     let d = data-set-read set (tree set) r.next r.is in
     rw (size-within set d.small) (

@@ -1,5 +1,6 @@
 -- What every answer of a call is: its number is one that can come, a refusal has length 0, the position is as the number says. Refusal by
 -- refusal for either mode, and of list mode's answer as a whole. Assumes nothing.
+use Rattle.std.proofs.Common.{if◌then◌else◌}
 use Prim.Native.Nat.{ℕ, suc, ◌+◌, ◌-◌, ◌≤◌, ◌<◌}
 use mathlib.Core.Path.{◌≡◌, refl, sym, ap, ◌∙◌}
 use mathlib.Core.Logic.{◌≢◌}
@@ -12,7 +13,6 @@ use lib.Dec.{ltb}
 use lib.ListN.{length}
 use borrow.Author.Tests.{ltb-true, ltb-false}
 use Rattle.answer.specs.declared.Answer.{Answer}
-use Rattle.slices.specs.If.{if◌then◌else◌}
 use Rattle.answer.specs.Answer.{accepted, refused, ◌or_else◌}
 use Rattle.answer.proofs.Laws.Refusals.{position-kept, position-none}
 use Rattle.answer.proofs.Laws.OrElse.{or-else-holds, both-accepted}

@@ -1,4 +1,5 @@
 -- The listed elements: what the tag by tag answer 13, 14, 15 leaves, and that they have a signed content. Assumes nothing.
+use Rattle.std.proofs.Common.{if◌then◌else◌}
 use Prim.Native.Nat.{ℕ, ◌+◌}
 use mathlib.Core.Path.{◌≡◌, refl, ap₂}
 use mathlib.Core.Bool.{Bool, true, false}
@@ -6,7 +7,6 @@ use mathlib.Core.List.{List, [], ◌∷◌}
 use mathlib.Core.Option.{Option, some}
 use mathlib.Core.Option as Opt
 use native.Mathlib.Omega.{arith}
-use Rattle.slices.specs.If.{if◌then◌else◌}
 use Rattle.answer.specs.Answer.{accepted, refused}
 use Rattle.answer.proofs.Laws.OrElse.{both-accepted}
 use Rattle.dataset.specs.Tree.{Element, Elements}
@@ -23,7 +23,7 @@ pub record Unrefused (o : Option Element) : Type 0 where
   pub clean : holds_un element ≡ false
 
 element-unrefused : (i : ℕ) (o : Option Element) → (element_answer i o).number ≡ 0 → Unrefused o
-unfolding element_answer if◌then◌else◌
+unfolding element_answer
 element-unrefused i Opt.none h = absurd (omega arith)
 element-unrefused i (some e) h = go (is_un e) refl (holds_un e) refl h
   where

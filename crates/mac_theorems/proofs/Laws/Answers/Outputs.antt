@@ -6,17 +6,16 @@ use mathlib.Core.List.{List, ◌++◌}
 use native.Mathlib.Omega.{arith}
 use lib.ListN.{length, take, drop, length-append, length-drop}
 use lib.Seq.{take_at, drop_at}
-use Rattle.slices.specs.If.{if◌then◌else◌}
 use Rattle.stream.specs.Walk.{left_in}
 use Rattle.mac.specs.Result.{Result, is_accepted, output_after}
 
 pub output-refused : (c : Result) (out : List ℕ) → is_accepted c ≡ false → output_after c out ≡ out
-unfolding output_after left_in if◌then◌else◌
+unfolding output_after left_in
 output-refused c out h = rw h
 
 module _ (c : Result) (out : List ℕ) (h : is_accepted c ≡ true) where
   output-is : output_after c out ≡ c.stream ++ drop (length c.stream) out
-  unfolding output_after left_in if◌then◌else◌
+  unfolding output_after left_in
   output-is = rw h
 
   pub output-room : length c.stream ≤ length out → length (output_after c out) ≡ length out

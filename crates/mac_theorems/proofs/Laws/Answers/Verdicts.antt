@@ -1,11 +1,11 @@
 -- What a check says. Assumes nothing.
+use Rattle.std.proofs.Common.{if◌then◌else◌}
 use Prim.Native.Nat.{ℕ}
 use mathlib.Core.Path.{◌≡◌, refl, sym, ap, ap₂, ◌∙◌}
 use mathlib.Core.Bool.{Bool, true, false, true≢false, false≢true}
 use mathlib.Core.List.{List}
 use mathlib.Core.Option.{Option, some}
 use native.Mathlib.Omega.{arith}
-use Rattle.slices.specs.If.{if◌then◌else◌}
 use Rattle.slices.proofs.Laws.SameBytes.{same_bytes_lem, differ}
 use Rattle.digest.specs.Message.{digest_of}
 use Rattle.digest.specs.Sha256.{sha256}
@@ -24,7 +24,7 @@ module _ (c : Result) (e : List ℕ) (x : c.expected ≡ some e) where
   equal = same_bytes (digest_of sha256 c.stream) e
 
   verdict-by : verdict_of c ≡ verdict_by (is_accepted c) equal
-  unfolding verdict_of if◌then◌else◌
+  unfolding verdict_of
   verdict-by = ap (λ (o : Option (List ℕ)). if is_accepted c then compared o (digest_of sha256 c.stream) else neither) x ∙ go (is_accepted c) equal
     where
       go : (a s : Bool) → (if a then (if s then same else differs) else neither) ≡ verdict_by a s

@@ -7,7 +7,6 @@ use native.Mathlib.Omega.{arith}
 use lib.ListN.{length}
 use Rattle.dataset.specs.Bytes.{num16, num32, tag_at, vr_at}
 use Rattle.slices.specs.Lists.{between, OfBytes}
-use Rattle.slices.specs.If.{if◌then◌else◌}
 use Rattle.dataset.specs.Vr.{SQ, OB, short_form, long_form, one_of, form_of}
 use Rattle.dataset.specs.Reading.{deeper}
 use Rattle.dataset.specs.Tree.{Span, Element, Elements, Items, tag_of}
@@ -54,7 +53,7 @@ SizedAs true d at start n = (start ≡ at + 8) × (num16 d (at + 6) ≡ n)
 SizedAs false d at start n = (start ≡ at + 12) × (num16 d (at + 6) ≡ 0) × (num32 d (at + 8) ≡ n)
 
 pub sized-as : (vr : ℕ) (d : List ℕ) (at start n : ℕ) → Sized (form_of vr) d at start n → SizedAs (is_short vr) d at start n
-unfolding form_of if◌then◌else◌
+unfolding form_of
 sized-as vr d at start n s = go (is_short vr) refl
   where
     long : (b : Bool) → one_of vr long_form ≡ b → is_short vr ≡ false → SizedAs false d at start n

@@ -1,4 +1,5 @@
 -- An element that is found under a tag lies in the data set, and the elements of later tags lie after it. Assumes nothing.
+use Rattle.std.proofs.Common.{if◌then◌else◌}
 use Prim.Native.Nat.{ℕ, ◌+◌, ◌≤◌, ◌<◌}
 use mathlib.Core.Path.{◌≡◌, refl, ◌∙◌, subst}
 use mathlib.Core.Bool.{Bool, true, false, true≢false}
@@ -7,7 +8,6 @@ use mathlib.Core.Option.{some}
 use native.Mathlib.Omega.{arith}
 use lib.Dec.{eqb}
 use borrow.Author.Tests.{eqb-true}
-use Rattle.slices.specs.If.{if◌then◌else◌}
 use Rattle.dataset.specs.Tree.{Element, Elements, tag_of}
 use Rattle.dataset.proofs.Laws.Reading.Lies.{ElementLies, ElementsLie}
 use Rattle.dataset.specs.Lookup.{element_of}
@@ -27,7 +27,7 @@ pub record FoundAt (tag : ℕ) (es : Elements) (d : List ℕ) (left floor at nex
 
 pub found_at : (tag : ℕ) (es : Elements) (d : List ℕ) (left floor at next : ℕ) → ElementsLie es d left floor at next → (e : Element) → element_of tag es ≡ some e
     → FoundAt tag es d left floor at next e
-unfolding element_of if◌then◌else◌ ElementsLie
+unfolding element_of ElementsLie
 found_at tag Elements.none d left floor at next r e h = absurd (true≢false (cc))
 found_at tag (Elements.and k es) d left floor at next r e h = go (eqb (tag_of k) tag) refl h (λ f. found_at tag es d left (tag_of k + 1) r.0 next r.3 e f)
   where

@@ -1,5 +1,6 @@
 -- A list with one tag more, in its place: where that tag is barred the tags still ascend; the stream is longer by that tag's element.
 -- Assumes nothing.
+use Rattle.std.proofs.Common.{if◌then◌else◌}
 use Prim.Native.Nat.{ℕ, ◌+◌, ◌≤◌}
 use mathlib.Core.Path.{◌≡◌, refl, sym, ap, ◌∙◌}
 use mathlib.Core.Bool.{Bool, true, false, true≢false}
@@ -8,7 +9,6 @@ use native.Mathlib.Omega.{arith}
 use lib.Dec.{ltb}
 use lib.ListN.{length, length-append}
 use borrow.Author.Tests.{ltb-true, ltb-false, le-ltb}
-use Rattle.slices.specs.If.{if◌then◌else◌}
 use Rattle.answer.specs.Answer.{refused}
 use Rattle.dataset.specs.Tree.{Elements}
 use Rattle.dataset.specs.Lookup.{element_of}
@@ -22,7 +22,7 @@ insert tag (u ∷ us) = if ltb u tag then u ∷ insert tag us else tag ∷ u ∷
 
 ascends-on : (index least tag : ℕ) (tags : List ℕ) → least ≤ tag → (ascending_answer (index + 1) (tag + 1) tags).number ≡ 0
     → (ascending_answer index least (tag ∷ tags)).number ≡ 0
-unfolding ascending_answer if◌then◌else◌
+unfolding ascending_answer
 ascends-on index least tag tags l h = rw (le-ltb tag least l) h
 
 -- the index is only that of a refusal
@@ -38,7 +38,7 @@ record Unbarred (index tag : ℕ) (tags : List ℕ) : Type 0 where
   rest : (unbarred_answer (index + 1) tags).number ≡ 0
 
 unbars : (index tag : ℕ) (tags : List ℕ) → (unbarred_answer index (tag ∷ tags)).number ≡ 0 → Unbarred index tag tags
-unfolding unbarred_answer if◌then◌else◌
+unfolding unbarred_answer
 unbars index tag tags = go (barred tag) refl
   where
     go : (b : Bool) → barred tag ≡ b → (if b then refused 12 index else unbarred_answer (index + 1) tags).number ≡ 0 → Unbarred index tag tags
@@ -48,7 +48,7 @@ unbars index tag tags = go (barred tag) refl
 -- a barred tag is none of those of a list that is not refused
 pub insert-ascends : (tag : ℕ) → barred tag ≡ true → (index least : ℕ) (us : List ℕ) → least ≤ tag → (ascending_answer index least us).number ≡ 0
     → (unbarred_answer index us).number ≡ 0 → (ascending_answer index least (insert tag us)).number ≡ 0
-unfolding ascending_answer insert if◌then◌else◌
+unfolding ascending_answer insert
 insert-ascends tag b index least [] l h k = ascends-on index least tag [] l refl
 insert-ascends tag b index least (u ∷ us) l h k =
     let p = ascends index least u us h in
@@ -70,7 +70,7 @@ module _ (es : Elements) (d : List ℕ) where
   one-length tag tags = length-append (found_stream (element_of tag es) d) (listed_stream tags es d)
 
   pub insert-length : (tag : ℕ) (us : List ℕ) → length (listed_stream (insert tag us) es d) ≡ length (found_stream (element_of tag es) d) + length (listed_stream us es d)
-  unfolding insert if◌then◌else◌
+  unfolding insert
   insert-length tag [] = one-length tag []
   insert-length tag (u ∷ us) = go (ltb u tag) (insert-length tag us)
     where

@@ -1,4 +1,5 @@
 -- List mode: the stream of a list whose tags ascend is no longer than the data set. Assumes nothing.
+use Rattle.std.proofs.Common.{if◌then◌else◌}
 use Prim.Native.Nat.{ℕ, ◌+◌, ◌≤◌}
 use mathlib.Core.Path.{◌≡◌, refl, ◌∙◌}
 use mathlib.Core.Bool.{Bool, true, false}
@@ -9,7 +10,6 @@ use native.Mathlib.Omega.{arith}
 use lib.Dec.{ltb}
 use lib.ListN.{length, length-append}
 use borrow.Author.Tests.{ltb-false}
-use Rattle.slices.specs.If.{if◌then◌else◌}
 use Rattle.answer.specs.Answer.{refused}
 use Rattle.answer.proofs.Laws.OrElse.{BothAccepted, both-accepted}
 use Rattle.dataset.specs.Tree.{Element, Elements}
@@ -29,7 +29,7 @@ pub record Ascends (index least tag : ℕ) (tags : List ℕ) : Type 0 where
   pub rest : (ascending_answer (index + 1) (tag + 1) tags).number ≡ 0
 
 pub ascends : (index least tag : ℕ) (tags : List ℕ) → (ascending_answer index least (tag ∷ tags)).number ≡ 0 → Ascends index least tag tags
-unfolding ascending_answer if◌then◌else◌
+unfolding ascending_answer
 ascends index least tag tags = go (ltb tag least) refl
   where
     go : (b : Bool) → ltb tag least ≡ b → (if b then refused 11 index else ascending_answer (index + 1) (tag + 1) tags).number ≡ 0 → Ascends index least tag tags

@@ -1,5 +1,6 @@
 -- What signature mode selects: a refusal of 18 to 23, or a list, an algorithm, the data set and the signature item. The stream of this item's
 -- elements is no longer than that of (FFFA,FFFA). Assumes nothing.
+use Rattle.std.proofs.Common.{if◌then◌else◌}
 use Prim.Native.Nat.{ℕ, ◌+◌, ◌≤◌}
 use mathlib.Core.Path.{◌≡◌, refl}
 use mathlib.Core.Bool.{Bool, true, false, true≢false}
@@ -8,7 +9,6 @@ use mathlib.Core.Option.{Option, some}
 use mathlib.Core.Option as Opt
 use native.Mathlib.Omega.{arith}
 use lib.ListN.{length, length-append}
-use Rattle.slices.specs.If.{if◌then◌else◌}
 use Rattle.dataset.specs.Vr.{AT, CS, UI}
 use Rattle.dataset.specs.Tree.{Element, Elements, Items}
 use Rattle.dataset.specs.Lookup.{element_of}
@@ -40,7 +40,7 @@ module _ (P : Selection → Type 0) (refused : (number : ℕ) → 18 ≤ number 
 -- the stream of an item's elements is no longer than that of the sequence that it stands in
 module _ (d : List ℕ) (item : Elements) (test : ℕ → Elements → Bool) where
   item-within : (index : ℕ) (items : Items) → first_item test index items ≡ some item → length (elements_stream item d) ≤ length (items_stream items d)
-  unfolding first_item items_stream if◌then◌else◌
+  unfolding first_item items_stream
   item-within index Items.last e = absurd (true≢false (cc))
   item-within index (Items.item at es rest) e = go (test index es) e (item-within (index + 1) rest)
     where

@@ -1,5 +1,6 @@
 -- The stream of signature mode starts with list mode's for the list that is selected, and its answers from 10 on are list mode's. Assumes
 -- nothing.
+use Rattle.std.proofs.Common.{if◌then◌else◌}
 use Prim.Native.Nat.{ℕ, ◌≤◌}
 use mathlib.Core.Path.{◌≡◌, refl, sym, ap, ◌∙◌}
 use mathlib.Core.Bool.{Bool, true, false, true≢false}
@@ -11,7 +12,6 @@ use lib.Dec.{ltb}
 use lib.ListN.{length, length-append}
 use borrow.Author.Tests.{lt-ltb, ltb-true}
 use Rattle.answer.specs.declared.Answer.{Answer}
-use Rattle.slices.specs.If.{if◌then◌else◌}
 use Rattle.answer.specs.Answer.{accepted, refused, ◌or_else◌}
 use Rattle.answer.proofs.Laws.OrElse.{or-else-first, or-else-second, or-else-assoc}
 use Rattle.dataset.specs.Tree.{Elements}
@@ -40,7 +40,6 @@ module _ (first all : List ℕ) (room : ℕ) (expected : Option (List ℕ)) (l :
   -- 16 of the first is 16 of all
   room-again : (a b : Bool) → ltb room (length first) ≡ a → ltb room (length all) ≡ b
       → ((if a then refused 16 0 else accepted 0) or_else (if b then refused 16 0 else accepted (length all))) ≡ ((if b then refused 16 0 else accepted 0) or_else accepted (length all))
-  unfolding if◌then◌else◌
   room-again true true p q = or-else-first (refused 16 0) _ (λ z. omega arith) ∙ sym (or-else-first (refused 16 0) _ (λ z. omega arith))
   room-again true false p q = absurd (true≢false (sym (lt-ltb room (length all) (omega (arith, ltb-true room (length first) p))) ∙ q))
   room-again false true p q = or-else-second (accepted 0) _ refl ∙ sym (or-else-first (refused 16 0) _ (λ z. omega arith))

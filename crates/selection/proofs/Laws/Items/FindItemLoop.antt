@@ -5,7 +5,6 @@ use mathlib.Core.Bool.{Bool, true, false}
 use mathlib.Core.List.{List}
 use native.Mathlib.Omega.{arith}
 use Rattle.answer.specs.declared.Answer.{Answer}
-use Rattle.slices.specs.If.{if◌then◌else◌}
 use Rattle.dataset.specs.Tags.{mac_id_number, data_elements_signed}
 use Rattle.dataset.specs.Tree.{Elements, Items}
 use Rattle.dataset.specs.Reading.{Reading, fault, read, ◌>>=◌}
@@ -40,13 +39,13 @@ find-item-start d x w l = record { inside = l.order; few = omega arith; on = λ 
 module _ (d : List ℕ) (w : ItemKey) (at index : ℕ) (es : Elements) (z : FoundItem) where
   meant : (o : Reading Items) → has_key d w index es ≡ true → ItemFound d es z
       → FoundItemIn d w index (o >>= λ (rest, after). read (Items.item at es rest) after) z
-  unfolding first_item if◌then◌else◌
+  unfolding first_item
   meant (fault f) t h = tt
   meant (read rest n) t h = rw t h
 
   passed : (o : Reading Items) → has_key d w index es ≡ false → FoundItemIn d w (index + 1) o z
       → FoundItemIn d w index (o >>= λ (rest, after). read (Items.item at es rest) after) z
-  unfolding first_item if◌then◌else◌
+  unfolding first_item
   passed (fault f) t h = tt
   passed (read rest n) t h = rw t h
 

@@ -1,4 +1,5 @@
 -- The tests of a MAC ID Number and of the key of an item, with the facts of the place as premises. Assumes nothing.
+use Rattle.std.proofs.Common.{if◌then◌else◌}
 use Prim.Native.Nat.{ℕ, ◌-◌, ◌≤◌}
 use mathlib.Core.Path.{◌≡◌, refl}
 use mathlib.Core.Bool.{Bool, true, false, ◌&&◌}
@@ -7,7 +8,6 @@ use mathlib.Core.Option.{Option, some}
 use mathlib.Core.Option as Opt
 use lib.Dec.{eqb}
 use lib.ListN.{length, take, drop}
-use Rattle.slices.specs.If.{if◌then◌else◌}
 use Rattle.slices.specs.Lists.{between, same_bytes}
 use Rattle.dataset.specs.Vr.{US}
 use Rattle.dataset.specs.Tree.{Element}
@@ -28,7 +28,6 @@ use Rattle.selection.proofs.Laws.PlaceValues.{value-order, value-inside, value-a
 -- the bytes of the MAC ID Number in a place
 module _ (d : List ℕ) (p : Place) (vr start end : ℕ) (is : p ≡ place.Value vr start end) (lies : PlaceLies d p) (b : Bool) (e : b ≡ (eqb vr US && eqb (end - start) 2)) where
   pub two_bytes_lem : (o : Option Element) → Placed d o p → two_bytes (value_of US o d) ≡ (if b then some (between d start end) else Opt.none)
-  unfolding if◌then◌else◌
   two_bytes_lem o q =
       let n : length (between d start end) ≡ end - start = length-between d start end (value-order d p vr start end is lies) (value-inside d p vr start end is lies) in
       rw (e, value-at d p vr start end is US o q) (go (eqb vr US) (between d start end) (end - start) n)
@@ -39,11 +38,10 @@ module _ (d : List ℕ) (p : Place) (vr start end : ℕ) (is : p ≡ place.Value
 
 module _ (d : List ℕ) (p : Place) (start end vr from to : ℕ) (is : p ≡ place.Value vr from to) (lies : PlaceLies d p) (b : Bool) (e : b ≡ (eqb vr US && eqb (to - from) 2)) where
   pub id_other : b ≡ false → SameMacId d p start end false
-  unfolding if◌then◌else◌
   id_other t = record { says = λ o q. rw (two_bytes_lem d p vr from to is lies b e o q, t) }
 
   pub id_same : (r : Bool) → b ≡ true → r ≡ same_bytes (take (to - from) (drop from d)) (take (end - start) (drop start d)) → SameMacId d p start end r
-  unfolding if◌then◌else◌ between
+  unfolding between
   id_same r t w = record { says = λ o q. rw (two_bytes_lem d p vr from to is lies b e o q, t) w }
 
 module _ (d : List ℕ) (w : ItemKey) (index : ℕ) (id : Place) where

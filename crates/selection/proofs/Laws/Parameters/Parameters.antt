@@ -7,7 +7,6 @@ use mathlib.Core.Option.{Option, some}
 use mathlib.Core.Option as Opt
 use borrow.Author.Tests.{eq-eqb, ne_eqb}
 use Rattle.answer.specs.declared.Answer.{Answer}
-use Rattle.slices.specs.If.{if◌then◌else◌}
 use Rattle.answer.specs.Answer.{refused}
 use Rattle.dataset.specs.Vr.{AT, CS, UI}
 use Rattle.dataset.specs.Tree.{Elements}
@@ -69,12 +68,12 @@ module _ (uid d : List ℕ) (signed signature parameters : Extent) (list : Place
 
   module _ (first second : Place) (next : ℕ) (is : f ≡ sought.Past first second next) (b : Bool) (g : BadSyntax uid d first b) where
     pub list-syntax : (r : Selection) → b ≡ true → r ≡ selection.Refused (refused 21 0) → ParametersSelected uid d signed signature parameters list r
-    unfolding parameters_select if◌then◌else◌
+    unfolding parameters_select
     list-syntax r t w = record { says = λ es parts ps k n m u x y q. rw (syntax-is ps m y first second next is b g, t) w }
 
     module _ (t : b ≡ false) (o : FoundAlgorithm) (h : AlgorithmOf d second o) where
       pub list-algorithm : (r : Selection) → o ≡ found_algorithm.Unknown → r ≡ selection.Refused (refused 22 0) → ParametersSelected uid d signed signature parameters list r
-      unfolding parameters_select if◌then◌else◌
+      unfolding parameters_select
       list-algorithm r v w =
           record {
             says = λ es parts ps k n m u x y q.
@@ -88,7 +87,7 @@ module _ (uid d : List ℕ) (signed signature parameters : Extent) (list : Place
         -- what is left of the selection: 23
         rest : (es parts ps : Elements) (m : ℕ) (y : elements_in d parameters ≡ read ps m)
             → parameters_select uid d es parts ps ≡ need 23 (value_of AT (element_of data_elements_signed ps) d) (λ l. selected l (named ps m y).algorithm es parts)
-        unfolding parameters_select if◌then◌else◌
+        unfolding parameters_select
         rest es parts ps m y = rw (syntax-is ps m y first second next is b g ∙ t, (named ps m y).same)
 
         pub list-none : (r : Selection) → NoValue list → r ≡ selection.Refused (refused 23 0) → ParametersSelected uid d signed signature parameters list r
@@ -97,7 +96,6 @@ module _ (uid d : List ℕ) (signed signature parameters : Extent) (list : Place
 
         module _ (vr start end : ℕ) (j : list ≡ place.Value vr start end) where
           pub list-other : (r : Selection) → (vr ≡ AT → ⊥) → r ≡ selection.Refused (refused 23 0) → ParametersSelected uid d signed signature parameters list r
-          unfolding if◌then◌else◌
           list-other r z w =
               record {
                 says = λ es parts ps k n m u x y q.
@@ -106,7 +104,6 @@ module _ (uid d : List ℕ) (signed signature parameters : Extent) (list : Place
 
           pub list-selected : vr ≡ AT → Lies d signed → Lies d signature → PlaceLies d list
               → ParametersSelected uid d signed signature parameters list (selection.Selected (record { start = start; end = end; algorithm = a; signed = signed; item = signature }))
-          unfolding if◌then◌else◌
           list-selected z l l' p =
               record {
                 says = λ es parts ps k n m u x y q.

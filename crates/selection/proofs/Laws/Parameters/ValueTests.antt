@@ -8,7 +8,6 @@ use native.Mathlib.Omega.{arith}
 use lib.ListN.{length, take, drop, get_or, length-drop, length-take}
 use lib.Seq.{drop-cons, length-take-le, take_all, take-length}
 use borrow.Author.Tests.{eq-eqb, ne_eqb}
-use Rattle.slices.specs.If.{if◌then◌else◌}
 use Rattle.slices.specs.Lists.{same_bytes, all_are}
 use Rattle.selection.specs.Selection.{less_nul, implicit_vr_little_endian, explicit_vr_big_endian, bad_transfer_syntax, SHA256, is_term, algorithm_of}
 use Rattle.selection.specs.Inner.Selection.{LessNul, found_case}
@@ -21,7 +20,7 @@ same_byte : (l : List ℕ) (i : ℕ) → i < length l → get_or l i 1 ≡ get_o
 same_byte l i h = cc (drop-cons l i 1 h, drop-cons l i 0 h)
 
 pub nul-empty : (value : List ℕ) → length value ≡ 0 → LessNul value 0
-unfolding less_nul if◌then◌else◌
+unfolding less_nul
 nul-empty [] h = record { within = omega arith; is = refl }
 nul-empty (x ∷ value) h = absurd (omega arith)
 
@@ -30,11 +29,11 @@ module _ (value : List ℕ) (n : ℕ) (e : n ≡ length value) (h : n ≡ 0 → 
   last = rw e (same_byte value (length value - 1) (omega arith))
 
   pub nul-last : get_or value (n - 1) 0 ≡ 0 → LessNul value (n - 1)
-  unfolding less_nul if◌then◌else◌
+  unfolding less_nul
   nul-last k = record { within = omega arith; is = rw (last, eq-eqb (get_or value (n - 1) 0) 0 k, e) }
 
   pub nul-none : (get_or value (n - 1) 0 ≡ 0 → ⊥) → LessNul value n
-  unfolding less_nul if◌then◌else◌
+  unfolding less_nul
   nul-none k = record { within = omega arith; is = rw (last, ne_eqb (get_or value (n - 1) 0) 0 k, e) (take-length value) }
 
 pub uid-empty : (uid value : List ℕ) → length value ≡ 0 → true ≡ bad_transfer_syntax uid (some value)
@@ -78,9 +77,9 @@ module _ (value : List ℕ) (b : Bool) (e : b ≡ same_bytes (take 6 value) SHA2
 
 module _ (value : List ℕ) (b : Bool) (e : b ≡ is_term SHA256 value) where
   pub term-unknown : b ≡ false → found_algorithm.Unknown ≡ found_case (algorithm_of (some value))
-  unfolding algorithm_of if◌then◌else◌
+  unfolding algorithm_of
   term-unknown t = rw (← e, t)
 
   pub term-known : b ≡ true → found_algorithm.Named algorithm.Sha256 ≡ found_case (algorithm_of (some value))
-  unfolding algorithm_of if◌then◌else◌
+  unfolding algorithm_of
   term-known t = rw (← e, t)

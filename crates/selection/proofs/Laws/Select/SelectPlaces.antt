@@ -1,4 +1,5 @@
 -- What 18 to 23 give, place by place of `signature_item`, `select_from` and `select`, with the facts of the place as premises. Assumes nothing.
+use Rattle.std.proofs.Common.{if◌then◌else◌}
 use Prim.Native.Nat.{ℕ, ◌-◌, ◌≤◌}
 use mathlib.Core.Path.{◌≡◌, refl}
 use mathlib.Core.Bool.{Bool, true, false, ◌&&◌}
@@ -8,7 +9,6 @@ use mathlib.Core.Option as Opt
 use lib.Dec.{eqb}
 use lib.ListN.{length}
 use Rattle.answer.specs.declared.Answer.{Answer}
-use Rattle.slices.specs.If.{if◌then◌else◌}
 use Rattle.answer.specs.Answer.{refused}
 use Rattle.slices.specs.Lists.{between}
 use Rattle.dataset.specs.Vr.{US}
@@ -140,14 +140,14 @@ module _ (uid : List ℕ) (which : Signature) (d : List ℕ) (whole x : Extent) 
         number_of = let s = item_of es q in two_bytes_lem d id vr start end k lies b e (element_of mac_id_number s.elements) s.placed
 
       pub select-other : (r : Selection) → b ≡ false → r ≡ selection.Refused (refused 19 0) → SelectOf uid which d whole x parameters signatures r
-      unfolding select_in if◌then◌else◌
+      unfolding select_in
       select-other r t w = record { says = λ es n u p q. rw ((item_of es q).same, number_of es q, t) w }
 
       module _ (t : b ≡ true) (c : FoundItem) (h : FoundItemUnder d parameters (key.MacId start end) c) where
         -- what is left of the selection: 20 to 23
         on : (all es : Elements) (q : Placed d (element_of digital_signatures_sequence es) signatures)
             → select_in uid which all d es ≡ need 20 (parameters_item (between d start end) es d) (λ ps. parameters_select uid d es (item_of es q).elements ps)
-        unfolding select_in if◌then◌else◌
+        unfolding select_in
         on all es q = rw ((item_of es q).same, number_of es q, t)
 
         second : (es : Elements) → Placed d (element_of mac_parameters_sequence es) parameters → FoundItemAs d (parameters_item (between d start end) es d) c

@@ -1,4 +1,5 @@
 -- A refusal of the selection has a number from 18 on. Assumes nothing.
+use Rattle.std.proofs.Common.{if◌then◌else◌}
 use Prim.Native.Nat.{ℕ, ◌≤◌}
 use mathlib.Core.Path.{◌≡◌}
 use mathlib.Core.Logic.{◌≢◌}
@@ -7,7 +8,6 @@ use mathlib.Core.List.{List}
 use mathlib.Core.Option.{Option, some}
 use mathlib.Core.Option as Opt
 use native.Mathlib.Omega.{arith}
-use Rattle.slices.specs.If.{if◌then◌else◌}
 use Rattle.dataset.specs.Vr.{AT, CS, UI}
 use Rattle.dataset.specs.Tree.{Elements}
 use Rattle.dataset.specs.Lookup.{element_of}
@@ -24,7 +24,6 @@ needs number Opt.none on h k = h
 needs number (some a) on h k = k a
 
 tests : (b : Bool) (number : ℕ) (s : Selection) → 18 ≤ number → Numbered s → Numbered (if b then refusal number else s)
-unfolding if◌then◌else◌
 tests true number s h k = h
 tests false number s h k = k
 

@@ -1,4 +1,5 @@
 -- List and top level are merged: what one element more changes. The tags ascend on both sides. Assumes nothing.
+use Rattle.std.proofs.Common.{if◌then◌else◌}
 use Prim.Native.Nat.{ℕ, ◌+◌, ◌≤◌, ◌<◌}
 use mathlib.Core.Path.{◌≡◌, refl, sym, ap, ◌∙◌}
 use mathlib.Core.Bool.{Bool, true, false, true≢false}
@@ -10,7 +11,6 @@ use lib.ListN.{length, length-append}
 use lib.Seq.{sets}
 use borrow.Author.Tests.{le-ltb, eq-eqb, ltb-false}
 use Rattle.answer.specs.declared.Answer.{Answer}
-use Rattle.slices.specs.If.{if◌then◌else◌}
 use Rattle.answer.specs.Answer.{accepted, refused, ◌or_else◌}
 use Rattle.dataset.specs.Tree.{Element, Elements, and, tag_of}
 use Rattle.dataset.specs.Reading.{Reading, fault, read, ◌>>=◌}
@@ -32,7 +32,7 @@ record Split (index least wanted : ℕ) (tags : List ℕ) : Type 0 where
   pub rest : Ascends (index + 1) (wanted + 1) tags
 
 split : (index least wanted : ℕ) (tags : List ℕ) → Ascends index least (wanted ∷ tags) → Split index least wanted tags
-unfolding ascending_answer if◌then◌else◌
+unfolding ascending_answer
 split index least wanted tags a = go (ltb wanted least) refl a
   where
     go : (b : Bool) → ltb wanted least ≡ b → (if b then refused 11 index else ascending_answer (index + 1) (wanted + 1) tags) ≡ accepted 0 → Split index least wanted tags
@@ -40,7 +40,7 @@ split index least wanted tags a = go (ltb wanted least) refl a
     go false e q = record { above = ltb-false wanted least e; rest = q }
 
 pub later : (index least more : ℕ) (wanted : ℕ) (tags : List ℕ) → Ascends index least (wanted ∷ tags) → more ≤ wanted → Ascends index more (wanted ∷ tags)
-unfolding ascending_answer if◌then◌else◌
+unfolding ascending_answer
 later index least more wanted tags a h = rw (le-ltb wanted more h) (split index least wanted tags a).rest
 
 pub rest-ascends : (index least wanted : ℕ) (tags : List ℕ) → Ascends index least (wanted ∷ tags) → Ascends (index + 1) (wanted + 1) tags
@@ -94,7 +94,7 @@ Refuses number = eqb number 0 ≡ false
 refused-on : (d : List ℕ) (q : Reading Elements) (e : Element) (length number index count : ℕ) (tags xs ys : List ℕ) → Refuses number
     → ((es : Elements) (n : ℕ) → q ≡ read es n → tags_answer index tags (and e es) ≡ refused number index)
     → On d (q >>= in_front e) (accepted length) index tags xs q (refused number index) count [] ys
-unfolding listed_answer ListedLeaves ◌or_else◌ if◌then◌else◌
+unfolding listed_answer ListedLeaves ◌or_else◌
 refused-on d (fault f) e length number index count tags xs ys r a = record { answers = refl; output = λ zs l. tt }
 refused-on d (read es n) e length number index count tags xs ys r a =
     let q = a es n refl in
@@ -102,7 +102,7 @@ refused-on d (read es n) e length number index count tags xs ys r a =
 
 first-refused : (index wanted number : ℕ) (tags : List ℕ) (es : Elements) → Refuses number → element_answer index (element_of wanted es) ≡ refused number index
     → tags_answer index (wanted ∷ tags) es ≡ refused number index
-unfolding tags_answer ◌or_else◌ if◌then◌else◌
+unfolding tags_answer ◌or_else◌
 first-refused index wanted number tags es r a = rw (a, r)
 
 module _ (d : List ℕ) (q : Reading Elements) (e : Element) (length index count wanted : ℕ) (tags xs ys : List ℕ) where
@@ -113,18 +113,18 @@ module _ (d : List ℕ) (q : Reading Elements) (e : Element) (length index count
 
   module _ (h : tag_of e ≡ wanted) where
     pub on-unknown : is_un e ≡ true → On d (q >>= in_front e) (accepted length) index (wanted ∷ tags) xs q (refused 14 index) count [] ys
-    unfolding element_answer if◌then◌else◌
+    unfolding element_answer
     on-unknown u = refused-on d q e length 14 index count (wanted ∷ tags) xs ys refl λ es n w. first-refused index wanted 14 tags (and e es) refl (rw (find-here wanted e es h, u))
 
     pub on-holds : is_un e ≡ false → holds_un e ≡ true → On d (q >>= in_front e) (accepted length) index (wanted ∷ tags) xs q (refused 15 index) count [] ys
-    unfolding element_answer if◌then◌else◌
+    unfolding element_answer
     on-holds u v = refused-on d q e length 15 index count (wanted ∷ tags) xs ys refl λ es n w. first-refused index wanted 15 tags (and e es) refl (rw (find-here wanted e es h, u, v))
 
 -- e is the wanted element, and its stream is written
 pub on-found : (d : List ℕ) (q : Reading Elements) (e : Element) (to index least wanted : ℕ) (tags xs ys : List ℕ) → Ascends index least (wanted ∷ tags) → tag_of e ≡ wanted
     → is_un e ≡ false → holds_un e ≡ false → (past : ℕ) → past ≡ to + length (stream_of e d) → ys ≡ sets xs to (stream_of e d)
     → On d (q >>= in_front e) (accepted to) index (wanted ∷ tags) xs q (accepted past) (index + 1) tags ys
-unfolding listed_answer ListedLeaves tags_answer listed_stream element_answer ◌or_else◌ if◌then◌else◌
+unfolding listed_answer ListedLeaves tags_answer listed_stream element_answer ◌or_else◌
 on-found d (fault f) e to index least wanted tags xs ys a h u v past t y = record { answers = refl; output = λ zs l. tt }
 on-found d (read es n) e to index least wanted tags xs ys a h u v past t y =
     let r = rest-ascends index least wanted tags a in

@@ -1,4 +1,5 @@
 -- The helpers of the walk over list and top level, place by place. Assumes nothing.
+use Rattle.std.proofs.Common.{if◌then◌else◌}
 use Prim.Native.Nat.{ℕ, ◌+◌, ◌*◌, ◌/◌, ◌≤◌, ◌<◌}
 use mathlib.Core.Path.{◌≡◌, refl, sym, ap, ◌∙◌}
 use mathlib.Core.Bool.{Bool, true, false}
@@ -8,7 +9,6 @@ use lib.Dec.{ltb}
 use lib.ListN.{length, drop}
 use borrow.Author.Tests.{lt-ltb, le-ltb}
 use Rattle.answer.specs.declared.Answer.{Answer}
-use Rattle.slices.specs.If.{if◌then◌else◌}
 use Rattle.answer.specs.Answer.{accepted, refused}
 use Rattle.dataset.specs.Bytes.{tag_at}
 use Rattle.stream.specs.TagList.{tags_in}
@@ -53,30 +53,27 @@ module _ (count : ℕ) (k : Keep) (s : Listed) (tag : ℕ) (unknown holds : Bool
 
   module _ (wanted : ℕ) (e : k ≡ keep.Only wanted) where
     pub merged-before : tag < wanted → s ≡ merged_of count k s tag unknown holds to
-    unfolding merged_of if◌then◌else◌
+    unfolding merged_of
     merged-before h = rw (e, lt-ltb tag wanted h)
 
     pub merged-absent : (z : Listed) → wanted < tag → z ≡ stopped_of count 13 s.index → z ≡ merged_of count k s tag unknown holds to
-    unfolding merged_of if◌then◌else◌
+    unfolding merged_of
     merged-absent z h w = w ∙ sym (rw (e, le-ltb tag wanted (omega arith), lt-ltb wanted tag h))
 
     module _ (h : wanted ≤ tag) (m : tag ≤ wanted) where
       here : merged_of count k s tag unknown holds to
           ≡ (if unknown then stopped_of count 14 s.index else if holds then stopped_of count 15 s.index else record { index = s.index + 1; answer = accepted to })
-      unfolding merged_of if◌then◌else◌
+      unfolding merged_of
       here = rw (e, le-ltb tag wanted h, le-ltb wanted tag m)
 
       pub merged-unknown : (z : Listed) → unknown ≡ true → z ≡ stopped_of count 14 s.index → z ≡ merged_of count k s tag unknown holds to
-      unfolding if◌then◌else◌
       merged-unknown z u w = w ∙ sym (here ∙ rw u)
 
       pub merged-holds : (z : Listed) → unknown ≡ false → holds ≡ true → z ≡ stopped_of count 15 s.index → z ≡ merged_of count k s tag unknown holds to
-      unfolding if◌then◌else◌
       merged-holds z u v w = w ∙ sym (here ∙ rw (u, v))
 
       pub merged-found : (a : Answer) → unknown ≡ false → holds ≡ false → a ≡ accepted to
           → ◌≡◌ {A = Listed} (record { index = s.index + 1; answer = a }) (merged_of count k s tag unknown holds to)
-      unfolding if◌then◌else◌
       merged-found a u v w = rw w (sym (here ∙ rw (u, v)))
 
 -- ---- the element that is wanted next
@@ -92,17 +89,17 @@ module _ (k : Keep) (tag : ℕ) (tags : List ℕ) where
 
   module _ (wanted : ℕ) (e : k ≡ keep.Only wanted) where
     pub behind-same : tag < wanted → keep.Only wanted ≡ wanted_behind k tag tags
-    unfolding wanted_behind if◌then◌else◌
+    unfolding wanted_behind
     behind-same h = rw (e, lt-ltb tag wanted h)
 
     pub behind-next : (r : Keep) → wanted ≤ tag → r ≡ next_listed tags → r ≡ wanted_behind k tag tags
-    unfolding wanted_behind if◌then◌else◌
+    unfolding wanted_behind
     behind-next r h q = q ∙ rw (e, le-ltb tag wanted h)
 
 -- the element that is wanted then
 pub still-wanted : (l : List ℕ) (count : ℕ) (c c' : Keep) (s s' : Listed) (tag : ℕ) (unknown holds : Bool) (past : ℕ) → c ≡ next_listed (tags_in (drop (4 * s.index) l))
     → s' ≡ merged_of count c s tag unknown holds past → c' ≡ wanted_behind c tag (tags_in (drop (4 * s'.index) l)) → c' ≡ next_listed (tags_in (drop (4 * s'.index) l))
-unfolding wanted_behind merged_of if◌then◌else◌
+unfolding wanted_behind merged_of
 still-wanted l count keep.Unbarred c' s s' tag unknown holds past k z q = q
 still-wanted l count keep.Nothing c' s s' tag unknown holds past k z q = q
 still-wanted l count (keep.Only wanted) c' s s' tag unknown holds past k z q = go (ltb tag wanted) refl z q

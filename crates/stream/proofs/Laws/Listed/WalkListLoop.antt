@@ -1,4 +1,5 @@
 -- What one turn of the loop of `walk_list` does, with the facts of the place as premises. Assumes nothing.
+use Rattle.std.proofs.Common.{if◌then◌else◌}
 use Prim.Native.Nat.{ℕ, suc, ◌+◌, ◌-◌, ◌*◌, ◌/◌, ◌≤◌, ◌<◌}
 use mathlib.Core.Path.{◌≡◌, refl, sym, ap, ◌∙◌}
 use mathlib.Core.Bool.{Bool, true, false, true≢false}
@@ -9,7 +10,6 @@ use lib.ListN.{length, drop}
 use lib.Seq.{sets, length-sets}
 use borrow.Author.Tests.{eq-eqb, ne_eqb, ltb-false, ltb-true, eqb-true}
 use Rattle.answer.specs.declared.Answer.{Answer}
-use Rattle.slices.specs.If.{if◌then◌else◌}
 use Rattle.answer.specs.Answer.{accepted, refused, ◌or_else◌}
 use Rattle.dataset.specs.Tree.{Element, Elements, none, tag_of}
 use Rattle.dataset.proofs.Laws.Reading.Lies.{ElementsLie}
@@ -79,11 +79,11 @@ on-trans d p₀ a₀ i₀ t₀ xs₀ p a i t xs q b j u ys f g =
 
 -- ---- the state after one element more
 kept : (c : Keep) (e : Element) (d : List ℕ) → keeps c (tag_of e) ≡ true → one_stream (keeps c) (element e) d ≡ stream_of e d
-unfolding one_stream if◌then◌else◌
+unfolding one_stream
 kept c e d k = rw k
 
 unkept : (c : Keep) (e : Element) (d : List ℕ) → keeps c (tag_of e) ≡ false → one_stream (keeps c) (element e) d ≡ []
-unfolding one_stream if◌then◌else◌
+unfolding one_stream
 unkept c e d k = rw k
 
 -- a tag is left: the list is not at its end
@@ -126,7 +126,7 @@ module _ (l d xs ys : List ℕ) (left at next least past : ℕ) (c : Keep) (s s'
       }
 
   turn : (tags : List ℕ) → from l s.index ≡ tags → c ≡ next_listed tags → s' ≡ merged_of (length l / 4) c s (tag_of e) (is_un e) (holds_un e) past → Turn
-  unfolding next_listed merged_of ascending_answer if◌then◌else◌
+  unfolding next_listed merged_of ascending_answer
   turn [] t k z = stays (rw k at z) (same-output (rw k)) (rw t) (rw t (on_none d q e s.answer s.index xs))
   turn (wanted ∷ tags) t k z = go (ltb (tag_of e) wanted) (ltb wanted (tag_of e)) (is_un e) (holds_un e) refl refl refl refl (rw k at z)
     where
@@ -207,7 +207,7 @@ module _ (l d : List ℕ) (x : Extent) (xs₀ xs : List ℕ) (at least : ℕ) (s
 
   ended_is : (tags : List ℕ) → from l s.index ≡ tags → (next : ℕ) → ys ≡ xs
       → (ended_of tags s ≡ listed_answer s.answer s.index tags d (read none next)) × ListedLeaves s.answer s.index tags d (read none next) xs ys
-  unfolding ended_of listed_answer ListedLeaves tags_answer listed_stream element_answer element_of ◌or_else◌ if◌then◌else◌
+  unfolding ended_of listed_answer ListedLeaves tags_answer listed_stream element_answer element_of ◌or_else◌
   ended_is [] t next y = (go (eqb s.answer.number 0) refl, λ h. y)
     where
       go : (b : Bool) → eqb s.answer.number 0 ≡ b → s.answer ≡ (if b then accepted (s.answer.length + 0) else s.answer)

@@ -1,11 +1,11 @@
 -- The signature item's own elements: none is barred or holds UN, and their stream is never longer than the item. Assumes nothing.
+use Rattle.std.proofs.Common.{if◌then◌else◌}
 use Prim.Native.Nat.{ℕ, ◌-◌, ◌≤◌}
 use mathlib.Core.Path.{◌≡◌, refl}
 use mathlib.Core.Bool.{Bool, true, false, ◌||◌}
 use mathlib.Core.List.{List, ◌++◌}
 use native.Mathlib.Omega.{arith}
 use lib.ListN.{length, length-append}
-use Rattle.slices.specs.If.{if◌then◌else◌}
 use Rattle.dataset.specs.Tree.{Element, Elements, tag_of}
 use Rattle.dataset.proofs.Laws.Reading.Lies.{ElementsLie}
 use Rattle.stream.specs.TagList.{barred, unless_barred}
@@ -28,7 +28,7 @@ own-element e h =
     record { unbarred = unbarred.0; clean = (neither (is_un e) (holds_un e) unbarred.1).1 }
 
 pub own-fewer : (es : Elements) (d : List ℕ) → length (elements_stream (own es) d) ≤ length (elements_stream es d)
-unfolding own elements_stream if◌then◌else◌
+unfolding own elements_stream
 own-fewer Elements.none d = omega arith
 own-fewer (Elements.and e es) d = go (left_out e) (barred (tag_of e)) refl (own-fewer es d)
   where

@@ -6,7 +6,6 @@ use mathlib.Core.List.{List, ◌++◌}
 use borrow.Author.Tests.{eq-eqb}
 use lib.ListN.{length}
 use Rattle.answer.specs.declared.Answer.{Answer}
-use Rattle.slices.specs.If.{if◌then◌else◌}
 use Rattle.dataset.specs.Tree.{Element, Elements, and, tag_of}
 use Rattle.dataset.specs.Reading.{Reading, One, element}
 use Rattle.stream.specs.TagList.{barred}
@@ -39,11 +38,11 @@ end-keep seen next e = rw e
 module _ (seen : OneWritten) (tag : ℕ) (unknown holds : Bool) (next to : ℕ) (b : Bool) (e : seen ≡ one.Element tag unknown holds next to)
     (q : b ≡ (named tag || (barred tag || (unknown || holds)))) where
   pub out-keep : b ≡ true → keep.Nothing ≡ own_keep seen
-  unfolding own_keep if◌then◌else◌
+  unfolding own_keep
   out-keep t = rw (e, ← q, t)
 
   pub only-keep : b ≡ false → keep.Only tag ≡ own_keep seen
-  unfolding own_keep if◌then◌else◌
+  unfolding own_keep
   only-keep t = rw (e, ← q, t)
 
 -- ---- write_own
@@ -56,7 +55,7 @@ own-start d x xs to l h = loop-start holds_none own_stream d x.delimited x.left 
 -- what is kept of an element that was seen is what the signature item's own elements begin with
 own-front : (d : List ℕ) (e : Element) (next past : ℕ) (c : Keep) → c ≡ own_keep (one.Element (tag_of e) (is_un e) (holds_un e) next past)
     → Front holds_none own_stream d (and e) (one_stream (keeps c) (element e) d) false
-unfolding holds_none own_stream own_keep own left_out elements_stream one_stream if◌then◌else◌
+unfolding holds_none own_stream own_keep own left_out elements_stream one_stream
 own-front d e next past c q = record { streams = λ es. go (left_out e) refl es; finds = λ es. refl }
   where
     go : (b : Bool) → left_out e ≡ b → (es : Elements) → own_stream (and e es) d ≡ one_stream (keeps c) (element e) d ++ own_stream es d

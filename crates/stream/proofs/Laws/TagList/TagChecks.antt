@@ -1,5 +1,6 @@
 -- The tags of a list, and what one turn of each check's loop does, with the facts of the place as premises.
 -- Assumes nothing.
+use Rattle.std.proofs.Common.{if◌then◌else◌}
 use Prim.Native.Nat.{ℕ, ◌+◌, ◌*◌, ◌/◌, ◌≤◌, ◌<◌}
 use mathlib.Core.Path.{◌≡◌, refl, sym, ap, ◌∙◌}
 use mathlib.Core.Option.{some}
@@ -11,7 +12,6 @@ use lib.ListN.{length, drop, get_or, length-drop}
 use lib.Dec.{ltb}
 use borrow.Author.Tests.{lt-ltb, le-ltb, le-leb, eq-eqb, ne_eqb}
 use Rattle.answer.specs.declared.Answer.{Answer}
-use Rattle.slices.specs.If.{if◌then◌else◌}
 use Rattle.answer.specs.Answer.{accepted, refused, ◌or_else◌}
 use Rattle.dataset.specs.Bytes.{num16, tag_at, tag_in, tag_case}
 use Rattle.dataset.specs.declared.bytes.TagIn.{TagIn}
@@ -46,11 +46,11 @@ pub tags-none : (l : List ℕ) (index : ℕ) → length l / 4 ≤ index → tags
 tags-none l index h = none_in (drop (4 * index) l) (simp length-drop (omega arith))
 
 pub tag-there : (l : List ℕ) (i tag : ℕ) (t : TagIn) → i + 4 ≤ length l → tag_case t ≡ tag_in l i → t ≡ tag_enum.Tag tag → tag ≡ tag_at l i
-unfolding tag_in if◌then◌else◌
+unfolding tag_in
 tag-there l i tag t h e q = let z : some tag ≡ some (tag_at l i) = sym (ap tag_case q) ∙ e ∙ rw (le-leb (i + 4) (length l) h) in cc
 
 pub tag-not-absent : (l : List ℕ) (i : ℕ) (t : TagIn) → i + 4 ≤ length l → tag_case t ≡ tag_in l i → (t ≡ tag_enum.Absent) → ⊥
-unfolding tag_in if◌then◌else◌
+unfolding tag_in
 tag-not-absent l i t h e q = let z : Opt.none ≡ some (tag_at l i) = sym (ap tag_case q) ∙ e ∙ rw (le-leb (i + 4) (length l) h) in true≢false (cc)
 
 pub tag-inside : (l : List ℕ) (index count : ℕ) → count ≡ length l / 4 → index < count → 4 * index + 4 ≤ length l
@@ -71,11 +71,9 @@ module _ (l : List ℕ) (index least : ℕ) (i : OrderLoop l index least) where
   order-on tag h e = i.same ∙ rw (tags-more l index h, ← e)
 
   pub order-refused : (tag : ℕ) (a : Answer) → index < length l / 4 → tag ≡ tag_at l (4 * index) → tag < least → a ≡ refused 11 index → a ≡ ascending_answer 0 0 (tags_in l)
-  unfolding if◌then◌else◌
   order-refused tag a h e k w = w ∙ sym (order-on tag h e ∙ rw (lt-ltb tag least k))
 
   pub order-again : (tag : ℕ) → index < length l / 4 → tag ≡ tag_at l (4 * index) → least ≤ tag → OrderLoop l (index + 1) (tag + 1)
-  unfolding if◌then◌else◌
   order-again tag h e k = record { inside = omega arith; same = order-on tag h e ∙ rw (le-ltb tag least k) }
 
   pub order-done : (a : Answer) → length l / 4 ≤ index → a ≡ accepted 0 → a ≡ ascending_answer 0 0 (tags_in l)
@@ -98,11 +96,9 @@ module _ (l : List ℕ) (index : ℕ) (i : BarredLoop l index) where
 
   pub barred-refused : (tag : ℕ) (b : Bool) (a : Answer) → index < length l / 4 → tag ≡ tag_at l (4 * index) → b ≡ barred tag → b ≡ true → a ≡ refused 12 index
       → a ≡ unbarred_answer 0 (tags_in l)
-  unfolding if◌then◌else◌
   barred-refused tag b a h e k t w = w ∙ sym (barred-on tag h e ∙ rw (← k, t))
 
   pub barred-again : (tag : ℕ) (b : Bool) → index < length l / 4 → tag ≡ tag_at l (4 * index) → b ≡ barred tag → b ≡ false → BarredLoop l (index + 1)
-  unfolding if◌then◌else◌
   barred-again tag b h e k t = record { inside = omega arith; same = barred-on tag h e ∙ rw (← k, t) }
 
   pub barred-done : (a : Answer) → length l / 4 ≤ index → a ≡ accepted 0 → a ≡ unbarred_answer 0 (tags_in l)
@@ -112,14 +108,14 @@ module _ (l : List ℕ) (index : ℕ) (i : BarredLoop l index) where
 -- ---- the whole list
 module _ (l : List ℕ) (b : Bool) (e : b ≡ bad_size (length l)) where
   pub list-size : (a : Answer) → b ≡ true → a ≡ refused 10 0 → a ≡ list_answer l
-  unfolding list_answer ◌or_else◌ if◌then◌else◌
+  unfolding list_answer ◌or_else◌
   list-size a t w = w ∙ sym (rw (← e, t))
 
   module _ (t : b ≡ false) (f : Answer) (g : f ≡ ascending_answer 0 0 (tags_in l)) where
     pub list-order : (f.number ≡ 0 → ⊥) → f ≡ list_answer l
-    unfolding list_answer ◌or_else◌ if◌then◌else◌
+    unfolding list_answer ◌or_else◌
     list-order h = rw (← e, t, ← g, ne_eqb f.number 0 h)
 
     pub list-rest : (a : Answer) → f.number ≡ 0 → a ≡ unbarred_answer 0 (tags_in l) → a ≡ list_answer l
-    unfolding list_answer ◌or_else◌ if◌then◌else◌
+    unfolding list_answer ◌or_else◌
     list-rest a h w = rw (← e, t, ← g, eq-eqb f.number 0 h) w

@@ -1,4 +1,5 @@
 -- Measuring, place by place of `measure`, with the facts of the place as premises; and what it says where it is accepted. Assumes nothing.
+use Rattle.std.proofs.Common.{if◌then◌else◌}
 use Prim.Native.Nat.{ℕ, ◌+◌}
 use mathlib.Core.Path.{◌≡◌, refl, sym, ap, ◌∙◌}
 use mathlib.Core.Bool.{Bool, true, false}
@@ -6,7 +7,6 @@ use mathlib.Core.List.{List, [], ◌∷◌}
 use native.Mathlib.Omega.{arith}
 use lib.Dec.{ltb}
 use lib.ListN.{length}
-use Rattle.slices.specs.If.{if◌then◌else◌}
 use Rattle.answer.specs.declared.Answer.{Answer}
 use Rattle.answer.specs.Answer.{accepted, refused, ◌or_else◌}
 use Rattle.answer.proofs.Laws.OrElse.{or-else-second, refused-first, or-else-assoc, both-accepted}
@@ -24,7 +24,6 @@ use Rattle.stream.proofs.Laws.Walk.StreamWalk.{walk-fault}
 -- ---- the tag list
 first-accepted : (b : Bool) (index : ℕ) (rest : Answer) → (rest.number ≡ 0 → rest ≡ accepted 0) → (if b then refused 11 index else rest).number ≡ 0
     → (if b then refused 11 index else rest) ≡ accepted 0
-unfolding if◌then◌else◌
 first-accepted true index rest k h = let z : ◌≡◌ {A = ℕ} 11 0 = h in absurd (omega arith)
 first-accepted false index rest k h = k h
 

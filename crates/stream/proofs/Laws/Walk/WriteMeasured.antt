@@ -9,7 +9,6 @@ use lib.Dec.{ltb}
 use lib.ListN.{length}
 use lib.Seq.{sets-eq}
 use borrow.Author.Tests.{lt-ltb, le-ltb, ltb-false, eq-eqb, ne_eqb}
-use Rattle.slices.specs.If.{if◌then◌else◌}
 use Rattle.answer.specs.declared.Answer.{Answer}
 use Rattle.answer.specs.Answer.{accepted, refused, ◌or_else◌}
 use Rattle.answer.proofs.Laws.OrElse.{or-else-first, or-else-second, or-else-refuses, both-accepted, passed}
@@ -25,14 +24,14 @@ unfolding answer_from16
 from16-accepts stream room h = passed (ltb room (length stream)) 16 0 (λ z. omega arith) (both-accepted _ _ h).first
 
 pub from16-accepted : (stream : List ℕ) (room : ℕ) → ltb room (length stream) ≡ false → answer_from16 stream room ≡ accepted (length stream)
-unfolding answer_from16 if◌then◌else◌
+unfolding answer_from16
 from16-accepted stream room h = or-else-second _ _ (rw h)
 
 -- ---- the places of `write`
 module _ (l d : List ℕ) (x : Extent) (item : SignatureItem) (later : Answer) (out : List ℕ) where
   -- a refusal leaves the output alone
   refuses : (a : Answer) → a ≡ answer l d x item later (length out) → (a.number ≡ 0 → ⊥) → WrittenAs l d x item later out a out
-  unfolding left_in if◌then◌else◌
+  unfolding left_in
   refuses a e h = record { answers = e; output = rw (ne_eqb a.number 0 h); short = λ z. absurd (h z) }
 
   -- m is what measuring answers
@@ -61,14 +60,14 @@ module _ (l d : List ℕ) (x : Extent) (item : SignatureItem) (later : Answer) (
         at-16 = goes_on ∙ or-else-second later _ k
 
         pub write-room : (a : Answer) → length out < m.length → a ≡ refused 16 0 → WrittenAs l d x item later out a out
-        unfolding answer_from16 if◌then◌else◌
+        unfolding answer_from16
         write-room a j q =
             refuses a
             (q ∙ sym (at-16 ∙ rw (lt-ltb (length out) (length all) (omega (arith, long))) (or-else-first (refused 16 0) _ (λ z. omega arith))))
             (λ z. let y : ◌≡◌ {A = ℕ} 16 0 = ap (λ (b : Answer). b.number) (sym q) ∙ z in omega arith)
 
         pub write-written : (r : Answer) (ys : List ℕ) → StreamWalk l d x item r out ys → m.length ≤ length out → WrittenAs l d x item later out r ys
-        unfolding left_in if◌then◌else◌
+        unfolding left_in
         write-written r ys w j =
             let q : r ≡ accepted (length all) = w.answers ∙ sym (e ∙ measure-walk l d x item m e h) ∙ measured-long l d x item m e h in
             let z : r.number ≡ 0 = ap (λ (b : Answer). b.number) q in

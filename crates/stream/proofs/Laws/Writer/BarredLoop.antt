@@ -1,10 +1,10 @@
 -- What one turn of the loop of `write_elements` does, with the facts of the place as premises. Assumes nothing.
+use Rattle.std.proofs.Common.{if◌then◌else◌}
 use Prim.Native.Nat.{ℕ, ◌+◌, ◌≤◌}
 use mathlib.Core.Path.{◌≡◌, refl, sym}
 use mathlib.Core.Bool.{Bool, true, false, not, ◌||◌}
 use mathlib.Core.List.{List, [], ◌++◌}
 use lib.ListN.{length}
-use Rattle.slices.specs.If.{if◌then◌else◌}
 use Rattle.dataset.specs.Tree.{Element, and, tag_of}
 use Rattle.dataset.specs.Reading.{element}
 use Rattle.stream.specs.TagList.{barred, unless_barred}
@@ -20,7 +20,7 @@ use Rattle.stream.proofs.Laws.Writer.ElementsLoop.{Loop, loop-end, found_here, l
 use Rattle.stream.proofs.Laws.Writer.Walks.{Front, or_assoc}
 
 element-front : (d : List ℕ) (e : Element) → Front elements_hold_un elements_stream d (and e) (one_stream (keeps keep.Unbarred) (element e) d) (is_un e || holds_un e)
-unfolding elements_stream elements_hold_un one_stream if◌then◌else◌
+unfolding elements_stream elements_hold_un one_stream
 element-front d e = record { streams = λ es. go (barred (tag_of e)) (elements_stream es d); finds = λ es. sym (or_assoc (is_un e) (holds_un e) (elements_hold_un es)) }
   where
     go : (b : Bool) (rest : List ℕ) → unless_barred b (λ more. stream_of e d ++ more) rest ≡ (if not b then stream_of e d else []) ++ rest

@@ -1,4 +1,5 @@
 -- What the walk over one element answers, and what it says of the reading. Assumes nothing.
+use Rattle.std.proofs.Common.{if◌then◌else◌}
 use Prim.Native.Nat.{ℕ, ◌+◌, ◌-◌, ◌≤◌}
 use mathlib.Core.Path.{◌≡◌, sym, ap, ◌∙◌, subst}
 use mathlib.Core.Bool.{Bool, true, false, true≢false}
@@ -7,7 +8,6 @@ use native.Mathlib.Omega.{arith}
 use lib.ListN.{length}
 use lib.Seq.{sets}
 use Rattle.answer.specs.declared.Answer.{Answer}
-use Rattle.slices.specs.If.{if◌then◌else◌}
 use Rattle.dataset.specs.Tree.{Element, Elements, and, tag_of}
 use Rattle.dataset.specs.Reading.{Reading, fault, read, ◌>>=◌, One, ended, element, explicit, by_one, elements_at, one_at}
 use Rattle.dataset.proofs.Laws.Reading.Unfolding.{elements-by}
@@ -49,7 +49,7 @@ is-element kept (read (element x) n) d to tag unknown holds next past e =
     record { what = x; is = ap (read (element x)) q; tagged = cc; unknowns = cc; holding = cc; passes = cc }
 
 one-length : (kept : ℕ → Bool) (e : Element) (d : List ℕ) (n : ℕ) → length (stream_of e d) ≤ n → length (one_stream kept (element e) d) ≤ n
-unfolding one_stream if◌then◌else◌
+unfolding one_stream
 one-length kept e d n h = go (kept (tag_of e))
   where
     go : (b : Bool) → length (if b then stream_of e d else []) ≤ n

@@ -10,7 +10,6 @@ use lib.Dec.{eqb}
 use lib.ListN.{length, length-append}
 use lib.Seq.{sets}
 use Rattle.answer.specs.declared.Answer.{Answer}
-use Rattle.slices.specs.If.{if◌then◌else◌}
 use Rattle.slices.specs.Lists.{between}
 use Rattle.dataset.specs.Vr.{UN}
 use Rattle.dataset.specs.Header.{fault_at, element_case, element_at}
@@ -42,7 +41,7 @@ holding-walk : {A : Type 0} (unknown : A → Bool) (stream : A → List ℕ → 
     (make : A → ℕ → Element) → ((a : A) (n : ℕ) → k (a, n) ≡ read (element (make a n)) n) → ((a : A) (n : ℕ) → Holds unknown stream d tag bytes (make a n) a)
     → (to past : ℕ) (xs ys zs : List ℕ) (o : Written) (z : OneWritten) → past ≡ to + length bytes → ys ≡ sets xs to bytes
     → Walk (walked unknown stream) stream p d past o ys zs → z ≡ nested_written tag o → Walk (one_walked every) (one_stream every) (p >>= k) d to z xs zs
-unfolding walked one_walked one_stream every Leaves if◌then◌else◌
+unfolding walked one_walked one_stream every Leaves
 holding-walk unknown stream d tag bytes (fault f) k make m h to past xs ys zs o z t y w e = record { answers = e ∙ rw w.answers; output = tt }
 holding-walk unknown stream d tag bytes (read a n) k make m h to past xs ys zs o z t y w e =
     let g = h a n in
@@ -83,7 +82,7 @@ module _ (d : List ℕ) (left stop at : ℕ) (h : ElementHeader) where
 
       pub element-value : (to : ℕ) (z : OneWritten) (xs ys : List ℕ) → stop ≤ length d → z ≡ one.Element tag (eqb vr UN) false end (to + (end - at))
           → ys ≡ sets xs to (between d at end) → Walk (one_walked every) (one_stream every) (by_header_at d left stop at (element_case h)) d to z xs ys
-      unfolding by_header one_walked one_stream every Leaves stream_of holds_un if◌then◌else◌
+      unfolding by_header one_walked one_stream every Leaves stream_of holds_un
       element-value to z xs ys l g y =
           let n = length-between d at end value-order (value-inside (length d) l) in
           rw (by (header.Value tag vr start end) q, g) record { answers = rw n; output = y }
@@ -182,7 +181,7 @@ module _ (c : Keep) (d : List ℕ) where
 
   kept-walk : (p : Reading One) → Kept true p → (to : ℕ) (r : OneWritten) (xs ys : List ℕ) → Walk (one_walked every) (one_stream every) p d to r xs ys
       → Walk (one_walked (keeps c)) (one_stream (keeps c)) p d to r xs ys
-  unfolding one_walked one_stream every Leaves if◌then◌else◌
+  unfolding one_walked one_stream every Leaves
   kept-walk (fault f) k to r xs ys w = record { answers = w.answers; output = tt }
   kept-walk (read ended n) k to r xs ys w = record { answers = w.answers; output = w.output }
   kept-walk (read (element e) n) k to r xs ys w =
@@ -191,7 +190,7 @@ module _ (c : Keep) (d : List ℕ) where
 
   left-walk : (p : Reading One) → Kept false p → (to past : ℕ) (o r : OneWritten) (xs ys zs : List ℕ) → Walk (one_walked every) (one_stream every) p d past o ys zs → r ≡ with_offset o to
       → Walk (one_walked (keeps c)) (one_stream (keeps c)) p d to r xs xs
-  unfolding one_walked one_stream every Leaves if◌then◌else◌
+  unfolding one_walked one_stream every Leaves
   left-walk (fault f) k to past o r xs ys zs w e = record { answers = e ∙ rw w.answers; output = tt }
   left-walk (read ended n) k to past o r xs ys zs w e = record { answers = e ∙ rw w.answers; output = refl }
   left-walk (read (element x) n) k to past o r xs ys zs w e =
@@ -203,7 +202,7 @@ module _ (c : Keep) (d : List ℕ) where
 passed-walk : (c : Keep) (d : List ℕ) (at tag vr start end to : ℕ) (r : OneWritten) (xs : List ℕ) → keeps c tag ≡ false
     → r ≡ one.Element tag (eqb vr UN) false end to
     → Walk (one_walked (keeps c)) (one_stream (keeps c)) (read (element (value at tag vr (span start end))) end) d to r xs xs
-unfolding one_walked one_stream Leaves holds_un if◌then◌else◌
+unfolding one_walked one_stream Leaves holds_un
 passed-walk c d at tag vr start end to r xs t e = let z : to + 0 ≡ to = omega arith in record { answers = rw (t, e, z); output = rw t }
 
 module _ (d : List ℕ) (delimited : Bool) (left stop at least : ℕ) (h : ElementHeader) (g : element_case h ≡ element_at d delimited left stop at least) where
