@@ -13,7 +13,7 @@ fn main() {
     println!("cargo:rerun-if-changed={}", archive.display());
     if !archive.is_file() {
         eprintln!("{} is missing.", archive.display());
-        eprintln!("Make it with `rt staticlib eddyplume` at the repository's root,");
+        eprintln!("Make it with `rt lib` in crates/eddyplume,");
         eprintln!("or set EDDYPLUME_LIB to the folder that holds it.");
         process::exit(1);
     }
@@ -22,7 +22,7 @@ fn main() {
     println!("cargo:rustc-env=EDDYPLUME_ARCHIVE={}", archive.display());
 }
 
-/// The folder named by EDDYPLUME_LIB, or the one where `rt staticlib` writes.
+/// The folder named by EDDYPLUME_LIB, or the one where `rt lib` writes.
 fn folder() -> PathBuf {
     match env::var_os("EDDYPLUME_LIB") {
         Some(named) => {
@@ -31,6 +31,6 @@ fn folder() -> PathBuf {
             folder.map(Path::to_path_buf).unwrap_or(named)
         }
         None => Path::new(&env::var("CARGO_MANIFEST_DIR").unwrap_or_default())
-            .join("../../target/staticlib"),
+            .join("../../crates/eddyplume/out"),
     }
 }
