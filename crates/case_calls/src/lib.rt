@@ -1,11 +1,11 @@
 #![tactic(auto)]
-// What the cases of mac_cases call, and what is printed of it. Every function prints and gives nothing back, so that there is nothing to
-// promise of it: what it prints is tested by the program.
+// What the cases of mac_cases call, and what is printed of it. Every function prints and gives nothing back but the error of a write, so
+// that there is nothing to promise of it: what it prints is tested by the program.
 //
 // calls          list mode and signature mode
 // reading_kinds  the reading and the lookup
 // frame_kind     the stream program
-// print          bytes and numbers on standard output
+// print          bytes and numbers
 pub mod calls;
 pub mod frame_kind;
 pub mod print;

@@ -1,25 +1,25 @@
-// What a case prints: to standard output.
-use libc::STDOUT_FILENO;
+// What a case prints: to a writer.
+use std::io;
+use std::io::Write;
 
-pub fn text(s: &[u8]) {
-    io::write_all(STDOUT_FILENO, s);
+pub fn text<W: Write>(writer: &mut W, s: &[u8]) -> io::Result<()> {
+    writer.write_all(s)
 }
 
-pub(crate) fn byte(b: u8) {
+pub(crate) fn byte<W: Write>(writer: &mut W, b: u8) -> io::Result<()> {
     let s = [b];
-    text(&s);
+    text(writer, &s)
 }
 
 // A space and a number.
-pub(crate) fn number(n: u64) {
-    byte(b' ');
-    io::print_decimal(STDOUT_FILENO, n);
+pub(crate) fn number<W: Write>(writer: &mut W, n: u64) -> io::Result<()> {
+    write!(writer, " {n}")
 }
 
 // The number and the position of an answer.
-pub(crate) fn fault(n: u8, position: usize) {
-    number(n as u64);
-    number(position as u64);
+pub(crate) fn fault<W: Write>(writer: &mut W, n: u8, position: usize) -> io::Result<()> {
+    number(writer, n as u64)?;
+    number(writer, position as u64)
 }
 
 fn wide(b: u8) -> u64 {
@@ -27,15 +27,16 @@ fn wide(b: u8) -> u64 {
 }
 
 // A space and the bytes in hex, or nothing where there are none.
-pub(crate) fn hex(bytes: &[u8]) {
+pub(crate) fn hex<W: Write>(writer: &mut W, bytes: &[u8]) -> io::Result<()> {
     let mut i = 0;
     if 0 < bytes.len() {
-        byte(b' ');
+        byte(writer, b' ')?;
     }
     while i < bytes.len() {
-        io::print_hex(STDOUT_FILENO, wide(bytes[i]), 2);
+        write!(writer, "{:02x}", wide(bytes[i]))?;
         i += 1;
     }
+    Ok(())
 }
 
 // The first n bytes of s; no bytes where it has fewer.

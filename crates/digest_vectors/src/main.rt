@@ -5,7 +5,12 @@ mod print;
 mod refusals;
 mod vectors;
 
-fn main() {
-    vectors::run();
-    refusals::run();
+use std::io;
+use std::io::{BufWriter, Write};
+
+fn main(rt: HostRuntime) -> io::Result<()> {
+    let mut writer = BufWriter::new(rt.alloc(), io::writer(&rt))?;
+    vectors::run(&mut writer)?;
+    refusals::run(&mut writer)?;
+    writer.flush()
 }

@@ -1,6 +1,8 @@
 // Every kind of 25, and the neighbour that is accepted.
 use crate::print;
 use digest::running::{LIMIT, Running};
+use std::io;
+use std::io::Write;
 
 // Byte i of the waiting bytes: `count` letters, `after` behind them, and zeros.
 fn byte(i: usize, count: usize, after: u8) -> u8 {
@@ -59,72 +61,93 @@ fn same(a: Running, b: Running) -> bool {
     same_words(u, v)
 }
 
-fn print_kept(a: Running, b: Running) {
+fn print_kept<W: Write>(writer: &mut W, a: Running, b: Running) -> io::Result<()> {
     if same(a, b) {
-        print::text(b"kept");
+        print::text(writer, b"kept")
     } else {
-        print::text(b"changed");
+        print::text(writer, b"changed")
     }
 }
 
-fn run_finish(name: &[u8], s: Running) {
+fn run_finish<W: Write>(writer: &mut W, name: &[u8], s: Running) -> io::Result<()> {
     let done = s.finish();
     let answer = done.answer;
     let digest = done.digest;
     let back = done.running;
-    print::text(name);
-    print::text(b"finish");
-    print::answer(answer);
-    print_kept(s, back);
-    print::digest(digest);
+    print::text(writer, name)?;
+    print::text(writer, b"finish")?;
+    print::answer(writer, answer)?;
+    print_kept(writer, s, back)?;
+    print::digest(writer, digest)
 }
 
 // Feeds s, and finishes what comes back.
-fn run_feed(name: &[u8], s: Running, bytes: &[u8]) {
+fn run_feed<W: Write>(writer: &mut W, name: &[u8], s: Running, bytes: &[u8]) -> io::Result<()> {
     let fed = s.feed(bytes);
     let answer = fed.answer;
     let next = fed.running;
     let done = next.finish();
     let digest = done.digest;
-    print::text(name);
-    print::text(b"feed");
-    print::decimal(bytes.len());
-    print::answer(answer);
-    print_kept(s, next);
-    print::decimal(next.count);
-    print::digest(digest);
+    print::text(writer, name)?;
+    print::text(writer, b"feed")?;
+    print::decimal(writer, bytes.len())?;
+    print::answer(writer, answer)?;
+    print_kept(writer, s, next)?;
+    print::decimal(writer, next.count)?;
+    print::digest(writer, digest)
 }
 
-fn run_one(name: &[u8], s: Running, bytes: &[u8]) {
-    run_finish(name, s);
-    run_feed(name, s, bytes);
+fn run_one<W: Write>(writer: &mut W, name: &[u8], s: Running, bytes: &[u8]) -> io::Result<()> {
+    run_finish(writer, name, s)?;
+    run_feed(writer, name, s, bytes)
 }
 
 // 25: "a running digest is not possible" (RULES, 9.3), with possible neighbours.
-fn run_possible() {
-    run_one(b"possible", state(3, 0, 3), b"bbbbb");
-    run_one(b"possible-after-blocks", state(63, 0, 191), &[0x62u8; 200]);
-    run_one(b"count-above-total", state(1, 0, 0), b"b");
-    run_one(b"count-below-total", state(2, 0, 3), b"b");
-    run_one(b"count-of-a-block", state(64, 0, 64), b"b");
-    run_one(b"byte-past-the-waiting", state(3, 1, 3), b"b");
+fn run_possible<W: Write>(writer: &mut W) -> io::Result<()> {
+    run_one(writer, b"possible", state(3, 0, 3), b"bbbbb")?;
+    run_one(
+        writer,
+        b"possible-after-blocks",
+        state(63, 0, 191),
+        &[0x62u8; 200],
+    )?;
+    run_one(writer, b"count-above-total", state(1, 0, 0), b"b")?;
+    run_one(writer, b"count-below-total", state(2, 0, 3), b"b")?;
+    run_one(writer, b"count-of-a-block", state(64, 0, 64), b"b")?;
+    run_one(writer, b"byte-past-the-waiting", state(3, 1, 3), b"b")
 }
 
 // 25: "its total is past 2^61 - 1 bytes, or would be after the feeding that is asked for" (RULES, 9.3), with neighbours within the limit.
-fn run_totals() {
-    run_one(b"total-at-the-limit", state(63, 0, LIMIT), b"");
+fn run_totals<W: Write>(writer: &mut W) -> io::Result<()> {
+    run_one(writer, b"total-at-the-limit", state(63, 0, LIMIT), b"")?;
     run_one(
+        writer,
         b"total-at-the-limit-and-one-more",
         state(63, 0, LIMIT),
         b"b",
-    );
-    run_one(b"total-past-the-limit", state(0, 0, LIMIT + 1), b"");
-    run_one(b"largest-total", state(63, 0, 18446744073709551615), b"b");
-    run_one(b"feeding-to-the-limit", state(62, 0, LIMIT - 1), b"b");
-    run_one(b"feeding-past-the-limit", state(62, 0, LIMIT - 1), b"bb");
+    )?;
+    run_one(writer, b"total-past-the-limit", state(0, 0, LIMIT + 1), b"")?;
+    run_one(
+        writer,
+        b"largest-total",
+        state(63, 0, 18446744073709551615),
+        b"b",
+    )?;
+    run_one(
+        writer,
+        b"feeding-to-the-limit",
+        state(62, 0, LIMIT - 1),
+        b"b",
+    )?;
+    run_one(
+        writer,
+        b"feeding-past-the-limit",
+        state(62, 0, LIMIT - 1),
+        b"bb",
+    )
 }
 
-pub(crate) fn run() {
-    run_possible();
-    run_totals();
+pub(crate) fn run<W: Write>(writer: &mut W) -> io::Result<()> {
+    run_possible(writer)?;
+    run_totals(writer)
 }

@@ -2,6 +2,8 @@
 use crate::fields::Number;
 use crate::{bytes, fields, mode_kinds};
 use case_calls::{frame_kind, print, reading_kinds};
+use std::io;
+use std::io::Write;
 
 // What a case asks for: of its DATA or INPUT, or a call of a mode, or to measure one.
 #[derive(Clone, Copy)]
@@ -101,46 +103,52 @@ fn behind_asked(asked: Asked, args: &[u8]) -> &[u8] {
 }
 
 // Prints what is asked of data. Whether something is.
-fn print_asked(asked: Asked, d: &[u8]) -> bool {
+fn print_asked<W: Write>(writer: &mut W, asked: Asked, d: &[u8]) -> io::Result<bool> {
     match asked {
-        Asked::Reading => reading_kinds::print_reading(d),
-        Asked::One(left) => reading_kinds::print_one(d, left),
-        Asked::Lookup(tag) => reading_kinds::print_lookup(d, tag),
-        Asked::Program => frame_kind::print_program(d),
-        _ => return false,
+        Asked::Reading => reading_kinds::print_reading(writer, d)?,
+        Asked::One(left) => reading_kinds::print_one(writer, d, left)?,
+        Asked::Lookup(tag) => reading_kinds::print_lookup(writer, d, tag)?,
+        Asked::Program => frame_kind::print_program(writer, d)?,
+        _ => return Ok(false),
     }
-    true
+    Ok(true)
 }
 
 // Runs a case with the fields behind what is asked, and with a room for their bytes. Whether they are understood.
-fn run_asked(asked: Asked, args: &[u8], room: &mut [u8; 1056960]) -> bool {
+fn run_asked<W: Write>(
+    writer: &mut W,
+    asked: Asked,
+    args: &[u8],
+    room: &mut [u8; 1056960],
+) -> io::Result<bool> {
     if let Asked::Mode { signature, check } = asked {
-        return mode_kinds::mode_case(signature, check, args, room);
+        return mode_kinds::mode_case(writer, signature, check, args, room);
     }
     if let Asked::Measuring { signature } = asked {
-        return mode_kinds::measure_case(signature, args, room);
+        return mode_kinds::measure_case(writer, signature, args, room);
     }
     let end = bytes::put(args, room, 0);
     if end == bytes::NOWHERE {
-        return false;
+        return Ok(false);
     }
-    print_asked(asked, fields::part(room, 0, end))
+    print_asked(writer, asked, fields::part(room, 0, end))
 }
 
 // Runs the case of one line, with a room for its bytes a little over the size of a data set, and of a list and a digest with it.
-pub(crate) fn run_case(line: &[u8]) {
+pub(crate) fn run_case<W: Write>(writer: &mut W, line: &[u8]) -> io::Result<()> {
     if line.len() == 0 {
-        return;
+        return Ok(());
     }
     if line[0] == b'#' {
-        return;
+        return Ok(());
     }
-    print::text(fields::field(line));
+    print::text(writer, fields::field(line))?;
     let mut room = [0u8; 1056960];
     let case = fields::rest(line);
     let args = fields::rest(case);
     let asked = asked_of(fields::field(case), args);
-    if !run_asked(asked, behind_asked(asked, args), &mut room) {
-        print::text(b" ?\n");
+    if !run_asked(writer, asked, behind_asked(asked, args), &mut room)? {
+        print::text(writer, b" ?\n")?;
     }
+    Ok(())
 }

@@ -20,32 +20,41 @@ mod kinds;
 mod mode_kinds;
 
 use case_calls::print;
+use input_bytes::read_full;
+use std::io;
+use std::io::{BufWriter, Write};
 
 // Runs each line of the text.
-fn run(text: &[u8]) {
+fn run<W: Write>(writer: &mut W, text: &[u8]) -> io::Result<()> {
     let mut at = 0;
     while at < text.len() {
         let end = fields::until(text, b'\n', at);
-        kinds::run_case(&text[at..end]);
+        kinds::run_case(writer, &text[at..end])?;
         if end == text.len() {
-            return;
+            return Ok(());
         }
         at = end + 1;
     }
+    Ok(())
 }
 
 // Reads the text of the cases and runs it. The text may be as long as a case of the largest data set in hex, and a little more; of a
 // longer one nothing is run.
-fn run_input(input: &mut [u8; 2228224]) {
-    let n = io::read_full(libc::STDIN_FILENO, input);
+fn run_input<W: Write>(
+    rt: &impl Input,
+    writer: &mut W,
+    input: &mut [u8; 2228224],
+) -> io::Result<()> {
+    let n = read_full(&mut rt.reader(), input)?;
     if n == input.len() {
-        print::text(b"input over 2228223 bytes\n");
-        return;
+        return print::text(writer, b"input over 2228223 bytes\n");
     }
-    run(fields::part(input, 0, n));
+    run(writer, fields::part(input, 0, n))
 }
 
-fn main() {
+fn main(rt: HostRuntime) -> io::Result<()> {
     let mut input = [0u8; 2228224];
-    run_input(&mut input);
+    let mut writer = BufWriter::new(rt.alloc(), io::writer(&rt))?;
+    run_input(&rt, &mut writer, &mut input)?;
+    writer.flush()
 }

@@ -9,6 +9,8 @@ use crate::fields::Number;
 use crate::{bytes, fields};
 use case_calls::calls;
 use selection::select::Signature;
+use std::io;
+use std::io::Write;
 
 // Which signature: none, or a number in decimal.
 #[derive(Clone, Copy)]
@@ -61,17 +63,25 @@ struct Call {
 }
 
 // Makes the call. Whether WHICH is understood, and there is so much output room.
-fn call_with(call: Call, expected: &[u8], list_or_uid: &[u8], d: &[u8], out: &mut [u8]) -> bool {
+fn call_with<W: Write>(
+    writer: &mut W,
+    call: Call,
+    expected: &[u8],
+    list_or_uid: &[u8],
+    d: &[u8],
+    out: &mut [u8],
+) -> io::Result<bool> {
     let start = 0;
     let size = call.size;
     let named = call.which;
     let Which::Good(which) = named else {
-        return false;
+        return Ok(false);
     };
     if out.len() < size {
-        return false;
+        return Ok(false);
     }
     calls::print_call(
+        writer,
         call.signature,
         call.check,
         expected,
@@ -79,28 +89,39 @@ fn call_with(call: Call, expected: &[u8], list_or_uid: &[u8], d: &[u8], out: &mu
         which,
         d,
         &mut out[start..size],
-    );
-    true
+    )?;
+    Ok(true)
 }
 
 // Makes the call with the bytes of its fields, which stand in the room.
-fn call_in(call: Call, room: &[u8], out: &mut [u8; 1048640]) -> bool {
+fn call_in<W: Write>(
+    writer: &mut W,
+    call: Call,
+    room: &[u8],
+    out: &mut [u8; 1048640],
+) -> io::Result<bool> {
     let e = fields::part(room, 0, call.expected);
     let k = fields::part(room, call.expected, call.list_or_uid);
     let d = fields::part(room, call.list_or_uid, call.set);
-    call_with(call, e, k, d, out)
+    call_with(writer, call, e, k, d, out)
 }
 
 // Makes the call with a room for the output a little over the size of a data set.
-fn call_from(call: Call, room: &[u8]) -> bool {
+fn call_from<W: Write>(writer: &mut W, call: Call, room: &[u8]) -> io::Result<bool> {
     let mut out = [0u8; 1048640];
-    call_in(call, room, &mut out)
+    call_in(writer, call, room, &mut out)
 }
 
 // Reads the fields and makes the call. The bytes of the fields are put into the room one behind the other. Whether they are understood.
-pub(crate) fn mode_case(signature: bool, check: bool, args: &[u8], room: &mut [u8]) -> bool {
+pub(crate) fn mode_case<W: Write>(
+    writer: &mut W,
+    signature: bool,
+    check: bool,
+    args: &[u8],
+    room: &mut [u8],
+) -> io::Result<bool> {
     let Number::Good(size) = fields::number_of(fields::field(args)) else {
-        return false;
+        return Ok(false);
     };
     let from_expected = fields::rest(args);
     let expected = put_expected(check, from_expected, room);
@@ -110,7 +131,7 @@ pub(crate) fn mode_case(signature: bool, check: bool, args: &[u8], room: &mut [u
     let which = which_of(signature, from_which);
     let set = bytes::put(rest_where(signature, from_which), room, list_or_uid);
     if set == bytes::NOWHERE {
-        return false;
+        return Ok(false);
     }
     let call = Call {
         signature,
@@ -121,23 +142,28 @@ pub(crate) fn mode_case(signature: bool, check: bool, args: &[u8], room: &mut [u
         which,
         set,
     };
-    call_from(call, room)
+    call_from(writer, call, room)
 }
 
 // Reads the fields of a measuring call and makes it. Whether they are understood.
-pub(crate) fn measure_case(signature: bool, args: &[u8], room: &mut [u8]) -> bool {
+pub(crate) fn measure_case<W: Write>(
+    writer: &mut W,
+    signature: bool,
+    args: &[u8],
+    room: &mut [u8],
+) -> io::Result<bool> {
     let from_which = fields::rest(args);
     let named = which_of(signature, from_which);
     let Which::Good(which) = named else {
-        return false;
+        return Ok(false);
     };
     let list_or_uid = bytes::put(fields::field(args), room, 0);
     let set = bytes::put(rest_where(signature, from_which), room, list_or_uid);
     if set == bytes::NOWHERE {
-        return false;
+        return Ok(false);
     }
     let k = fields::part(room, 0, list_or_uid);
     let d = fields::part(room, list_or_uid, set);
-    calls::print_measure(signature, k, which, d);
-    true
+    calls::print_measure(writer, signature, k, which, d)?;
+    Ok(true)
 }
