@@ -21,7 +21,7 @@ LEMMAS = {
     "written_in": ("eddyplume/proofs/Theorems",),
 }
 TOKEN = re.compile(r"[A-Za-z0-9_₀-₉◌'-]+")
-PAGES = ["README.md"] + [f"docs/{p}.md" for p in ("DECISIONS", "NUMBERS", "RULES", "TRACEABILITY", "TRUST", "WRONG-PROGRAMS")]
+PAGES = ["README.md"] + [f"docs/{p}.md" for p in ("DECISIONS", "NUMBERS", "RULES", "TRACEABILITY", "TRUST")]
 
 
 def snake(word):

@@ -1,4 +1,4 @@
--- Laws of refusals in their written order, `_orElse_`. Assumes nothing.
+-- Laws of refusals in their written order, `◌or_else◌`. Assumes nothing.
 use Rattle.std.proofs.Common.{if◌then◌else◌}
 use Prim.Native.Nat.{ℕ}
 use mathlib.Core.Path.{◌≡◌, refl, sym, ap, ◌∙◌}
