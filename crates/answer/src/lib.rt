@@ -2,9 +2,12 @@
 // The answer that every call gives, and that travels whole from where it is made to the caller.
 ghost use Rattle.std.specs.Prelude.{◌≡◌};
 ghost use Rattle.answer.specs.Answer as Spec;
+ghost use Rattle.answer.specs.Step.{answer_by};
+
+pub mod refusal;
 
 // The number, the position it speaks of, and the length of the stream.
-#[derive(Clone, Copy)]
+#[derive(Clone, Copy, Debug, PartialEq, Eq)]
 pub struct Answer {
     pub number: u8,
     pub position: usize,
@@ -34,6 +37,18 @@ impl Answer {
             number,
             position,
             length: 0,
+        }
+    }
+}
+
+// The answer of a call by its last step: a refusal, whole, or the length of the stream.
+impl From<Result<usize, Answer>> for Answer {
+    ghost from_gives = { λ r a. a ≡ answer_by r };
+
+    fn from(step: Result<usize, Answer>) -> Self {
+        match step {
+            Ok(length) => Self::accepted(length),
+            Err(refusal) => refusal,
         }
     }
 }
