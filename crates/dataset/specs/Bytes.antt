@@ -1,9 +1,5 @@
 -- Numbers, tags and VRs as a data set codes them: RULES, 2.4 and 2.5 (PS3.5, 7.1 and 7.3). Assumes nothing.
-use Rattle.std.specs.Prelude.{ℕ, ◌+◌, ◌*◌, List, length, get_or, leb, if◌then◌else◌}
-use Rattle.std.proofs.Math.Option.{Option, some}
-use Rattle.std.proofs.Math.Option as Opt
-use Rattle.dataset.specs.declared.bytes.TagIn.{TagIn}
-use Rattle.dataset.specs.declared.bytes.TagIn.TheVariants as tag_enum
+use Rattle.std.specs.Prelude.{ℕ, ◌+◌, ◌*◌, List, Option, Some, None, length, get_or, leb, if◌then◌else◌}
 
 -- the two-byte number at i, of group and element numbers, and lengths: "In group, element number and length the low byte comes first." (2.4)
 unfoldable pub num16 : List ℕ → ℕ → ℕ
@@ -19,12 +15,7 @@ tag_at d i = num16 d i * 65536 + num16 d (i + 2)
 
 -- the tag at i, or none where four bytes do not stand there
 unfoldable pub tag_in : List ℕ → ℕ → Option ℕ
-tag_in s i = if leb (i + 4) (length s) then some (tag_at s i) else Opt.none
-
--- the cases of TagIn (src/bytes.rt), by their values (13.2)
-abbrev pub tag_case : TagIn → Option ℕ
-tag_case tag_enum.Absent = Opt.none
-tag_case (tag_enum.Tag tag) = some tag
+tag_in s i = if leb (i + 4) (length s) then Some (tag_at s i) else None
 
 -- a VR by the codes of its two letters, as one number
 abbrev pub vr : (first second : ℕ) → ℕ

@@ -2,7 +2,7 @@
 -- src/extent.rt: from `from` up to `stop`, the end of the extent of RULES 2.10, or to a delimiter before it (`delimited`); `left` levels of
 -- sequences may follow.
 -- Assumes nothing.
-use Rattle.std.specs.Prelude.{ℕ, true, false, List, if◌then◌else◌}
+use Rattle.std.specs.Prelude.{ℕ, true, false, List, Result, Ok, Err, if◌then◌else◌}
 use Rattle.answer.specs.declared.Answer.{Answer}
 use Rattle.answer.specs.Answer.{accepted}
 use Rattle.dataset.specs.Header.{ItemHeader, fault_at, outside, item_at}
@@ -35,7 +35,7 @@ pub data OpenedItem : Type 0 where
 
 -- "those in the items of a sequence at level n are at level n + 1" (2.3): an item of a sequence with `left` levels, by its header
 abbrev pub opened_by : (left : ℕ) → ItemHeader → OpenedItem
-opened_by left (ItemHeader.refused number position) = OpenedItem.refused (fault_at number position)
+opened_by left (ItemHeader.refused a) = OpenedItem.refused a
 opened_by left (ItemHeader.ends next) = OpenedItem.ends next
 opened_by left (ItemHeader.item start end delimited) = OpenedItem.item (record { delimited = delimited; left = deeper left; stop = end; from = start })
 
@@ -43,8 +43,8 @@ opened_by left (ItemHeader.item start end delimited) = OpenedItem.item (record {
 unfoldable pub opened_item : List ℕ → Extent → (at : ℕ) → OpenedItem
 opened_item d x at = opened_by x.left (item_at d true x.delimited x.stop at)
 
--- the cases of OpenedItem (src/extent.rt), by their values (13.2)
-abbrev pub opened_case : item_enum.OpenedItem → OpenedItem
-opened_case (opened.Refused a) = OpenedItem.refused a
-opened_case (opened.End next) = OpenedItem.ends next
-opened_case (opened.Item inside) = OpenedItem.item inside
+-- what `open_item` gives (src/extent.rt), by its values (13.2): a refusal, or a case of its enum
+abbrev pub opened_case : Result item_enum.OpenedItem Answer → OpenedItem
+opened_case (Err a) = OpenedItem.refused a
+opened_case (Ok (opened.End next)) = OpenedItem.ends next
+opened_case (Ok (opened.Item inside)) = OpenedItem.item inside

@@ -7,7 +7,7 @@
 -- start      the offset past the header: of the value, the items, the elements or the fragment's bytes
 -- left       how many levels of sequences may follow: 16 less the level (2.3); more than 16 count as 16 (`deeper` of Reading.antt)
 -- least      one more than the tag before in the same data set, or 0 where there is none
-use Rattle.std.specs.Prelude.{ℕ, ◌+◌, ◌-◌, ◌%◌, Bool, true, false, not, ◌&&◌, ◌||◌, List, length, ltb, eqb, if◌then◌else◌}
+use Rattle.std.specs.Prelude.{ℕ, ◌+◌, ◌-◌, ◌%◌, Bool, true, false, not, ◌&&◌, ◌||◌, List, Result, Ok, Err, length, ltb, eqb, if◌then◌else◌}
 use Rattle.answer.specs.declared.Answer.{Answer}
 use Rattle.answer.specs.Answer as answer
 use Rattle.dataset.specs.Bytes.{num16, num32, tag_at, vr_at}
@@ -22,11 +22,10 @@ use Rattle.dataset.specs.declared.header.ItemHeader.TheVariants as item_header
 
 -- ---- what stands at a place
 
--- In an element's place: a refusal, by its number and its position, which "is the offset of the header at which it is found" (2.20); the end
--- of the data set, with the offset of what follows it; a value that is not looked into; items, up to `end` or to a sequence delimiter before
+-- In an element's place: a refusal, whose position "is the offset of the header at which it is found" (2.20); the end of the data set, with the offset of what follows it; a value that is not looked into; items, up to `end` or to a sequence delimiter before
 -- it (`delimited`); or fragments, up to a sequence delimiter.
 pub data ElementHeader : Type 0 where
-  refused : (number position : ℕ) → ElementHeader
+  refused : Answer → ElementHeader
   ends : (next : ℕ) → ElementHeader
   value : (tag vr start end : ℕ) → ElementHeader
   sequence : (tag start end : ℕ) (delimited : Bool) → ElementHeader
@@ -35,22 +34,22 @@ pub data ElementHeader : Type 0 where
 -- In the place of an item or a fragment: a refusal; the end of the items or fragments, with the offset of what follows them; or one of them,
 -- up to `end` or to an item delimiter before it (`delimited`).
 pub data ItemHeader : Type 0 where
-  refused : (number position : ℕ) → ItemHeader
+  refused : Answer → ItemHeader
   ends : (next : ℕ) → ItemHeader
   item : (start end : ℕ) (delimited : Bool) → ItemHeader
 
--- the cases of the two enums of src/header.rt, by their values (13.2); a refusal has its number, every other case number 0
-abbrev pub element_case : element_enum.ElementHeader → ElementHeader
-element_case (element_header.Refused number position) = ElementHeader.refused number position
-element_case (element_header.End next) = ElementHeader.ends next
-element_case (element_header.Value tag vr start end) = ElementHeader.value tag vr start end
-element_case (element_header.Sequence tag start end delimited) = ElementHeader.sequence tag start end delimited
-element_case (element_header.Fragments tag start) = ElementHeader.fragments tag start
+-- what the code's two functions give (src/header.rt), by its values (13.2): a refusal, or a case of their enums
+abbrev pub element_case : Result element_enum.ElementHeader Answer → ElementHeader
+element_case (Err a) = ElementHeader.refused a
+element_case (Ok (element_header.End next)) = ElementHeader.ends next
+element_case (Ok (element_header.Value tag vr start end)) = ElementHeader.value tag vr start end
+element_case (Ok (element_header.Sequence tag start end delimited)) = ElementHeader.sequence tag start end delimited
+element_case (Ok (element_header.Fragments tag start)) = ElementHeader.fragments tag start
 
-abbrev pub item_case : item_enum.ItemHeader → ItemHeader
-item_case (item_header.Refused number position) = ItemHeader.refused number position
-item_case (item_header.End next) = ItemHeader.ends next
-item_case (item_header.Item start end delimited) = ItemHeader.item start end delimited
+abbrev pub item_case : Result item_enum.ItemHeader Answer → ItemHeader
+item_case (Err a) = ItemHeader.refused a
+item_case (Ok (item_header.End next)) = ItemHeader.ends next
+item_case (Ok (item_header.Item start end delimited)) = ItemHeader.item start end delimited
 
 -- The fault of a refused header, with "the offset of the header at which it is found" (2.20): every fault of the reading but 1 is this one.
 abbrev pub fault_at : (number position : ℕ) → Answer
@@ -97,24 +96,24 @@ defined_by tag vr start end = if eqb vr SQ then ElementHeader.sequence tag start
 -- 2.11g, 2.11h, and 2.11i: "the length is defined, and the value ends past the extent"
 unfoldable pub value_by : (tag vr left stop at start len : ℕ) → ElementHeader
 value_by tag vr left stop at start len =
-    if bad_length vr len then ElementHeader.refused 7 at else
-    if too_deep vr left then ElementHeader.refused 8 at else
+    if bad_length vr len then ElementHeader.refused (fault_at 7 at) else
+    if too_deep vr left then ElementHeader.refused (fault_at 8 at) else
     if eqb len undefined then undefined_by tag vr stop start else
-    if ltb (stop - start) len then ElementHeader.refused 2 at else
+    if ltb (stop - start) len then ElementHeader.refused (fault_at 2 at) else
     defined_by tag vr start (start + len)
 
 -- 2.11e: "the form is long, and fewer than 12 bytes are left"; 2.11f: "the reserved bytes are not zero"
 unfoldable pub long_at : List ℕ → (tag vr left stop at : ℕ) → ElementHeader
 long_at d tag vr left stop at =
-    if ltb (stop - at) 12 then ElementHeader.refused 2 at else
-    if not (eqb (num16 d (at + 6)) 0) then ElementHeader.refused 6 at else
+    if ltb (stop - at) 12 then ElementHeader.refused (fault_at 2 at) else
+    if not (eqb (num16 d (at + 6)) 0) then ElementHeader.refused (fault_at 6 at) else
     value_by tag vr left stop at (at + 12) (num32 d (at + 8))
 
 -- 2.11d: "the VR is neither in 2.6 nor in 2.7"
 unfoldable pub by_form : Form → List ℕ → (tag vr left stop at : ℕ) → ElementHeader
 by_form Short d tag vr left stop at = value_by tag vr left stop at (at + 8) (num16 d (at + 6))
 by_form Long d tag vr left stop at = long_at d tag vr left stop at
-by_form Neither d tag vr left stop at = ElementHeader.refused 5 at
+by_form Neither d tag vr left stop at = ElementHeader.refused (fault_at 5 at)
 
 -- the checks from the VR on, by the VR that stands there
 unfoldable pub vr_on_at : List ℕ → (tag left stop at : ℕ) → ElementHeader
@@ -125,12 +124,12 @@ vr_on_at d tag left stop at = by_form (form_of (vr_at d at)) d tag (vr_at d at) 
 -- 2.11c: "the tag is not above that of the element before it in the same data set"
 unfoldable pub element_at : List ℕ → (delimited : Bool) (left stop at least : ℕ) → ElementHeader
 element_at d delimited left stop at least =
-    if outside d stop at then ElementHeader.refused 2 at else
+    if outside d stop at then ElementHeader.refused (fault_at 2 at) else
     if ends_at delimited stop at then ElementHeader.ends at else
-    if ltb (stop - at) 8 then ElementHeader.refused 2 at else
+    if ltb (stop - at) 8 then ElementHeader.refused (fault_at 2 at) else
     if closed_by d item_delimitation_item delimited at then ElementHeader.ends (at + 8) else
-    if eqb (num16 d at) 0xFFFE then ElementHeader.refused 3 at else
-    if ltb (tag_at d at) least then ElementHeader.refused 4 at else
+    if eqb (num16 d at) 0xFFFE then ElementHeader.refused (fault_at 3 at) else
+    if ltb (tag_at d at) least then ElementHeader.refused (fault_at 4 at) else
     vr_on_at d (tag_at d at) left stop at
 
 -- ---- an item or a fragment
@@ -140,8 +139,8 @@ element_at d delimited left stop at least =
 unfoldable pub item_by : (in_sequence : Bool) (stop at start len : ℕ) → ItemHeader
 item_by in_sequence stop at start len =
     if eqb len undefined && in_sequence then ItemHeader.item start stop true else
-    if eqb (len % 2) 1 then ItemHeader.refused 7 at else
-    if ltb (stop - start) len then ItemHeader.refused 2 at else
+    if eqb (len % 2) 1 then ItemHeader.refused (fault_at 7 at) else
+    if ltb (stop - start) len then ItemHeader.refused (fault_at 2 at) else
     ItemHeader.item start (start + len) false
 
 -- What stands at `at` in the place of an item of a sequence (`in_sequence`) or of a fragment, in an extent that ends at `stop`, or
@@ -149,9 +148,9 @@ item_by in_sequence stop at start len =
 -- delimiter's gives 3" (2.16)
 unfoldable pub item_at : List ℕ → (in_sequence delimited : Bool) (stop at : ℕ) → ItemHeader
 item_at d in_sequence delimited stop at =
-    if outside d stop at then ItemHeader.refused 2 at else
+    if outside d stop at then ItemHeader.refused (fault_at 2 at) else
     if ends_at delimited stop at then ItemHeader.ends at else
-    if ltb (stop - at) 8 then ItemHeader.refused 2 at else
+    if ltb (stop - at) 8 then ItemHeader.refused (fault_at 2 at) else
     if closed_by d sequence_delimitation_item delimited at then ItemHeader.ends (at + 8) else
-    if not (eqb (tag_at d at) item_tag) then ItemHeader.refused 3 at else
+    if not (eqb (tag_at d at) item_tag) then ItemHeader.refused (fault_at 3 at) else
     item_by in_sequence stop at (at + 8) (num32 d (at + 4))

@@ -39,12 +39,11 @@ found_in size tag (read es next) = found_of size (element_of tag es)
 unfoldable pub found : List ℕ → (tag : ℕ) → Found
 found d tag = found_in (length d) tag (data_set d)
 
--- What lookup hands back: a part of the lent data set, not a copy, by its offset and its length; beside it the number, the position and the
+-- What lookup hands back: a part of the lent data set, not a copy, by its offset and its length; beside it the reading's answer and the
 -- yes or no. A place is a block of memory and an offset in it: `lent` is where the data set starts, `place` where the part starts.
-pub record Lookup (f : Found) (lent : ℕ × ℕ) (d : List ℕ) (place : ℕ × ℕ) (value : List ℕ) (number position : ℕ) (yes : Bool) : Type 0 where
+pub record Lookup (f : Found) (lent : ℕ × ℕ) (d : List ℕ) (place : ℕ × ℕ) (value : List ℕ) (answer : Answer) (yes : Bool) : Type 0 where
   pub block : place.0 ≡ lent.0
   pub offset : place.1 ≡ lent.1 + f.start
   pub part : value ≡ between d f.start (f.start + f.length)
-  pub numbered : number ≡ f.answer.number
-  pub positioned : position ≡ f.answer.position
+  pub answered : answer ≡ f.answer
   pub stands : yes ≡ f.present

@@ -1,9 +1,10 @@
 -- What stands under a tag of a data set, by where it lies (RULES, 2.10), and what the walk for two tags answers. `Place` and `Sought` are the
--- enums of src/seek.rt.
+-- enum and the struct of src/seek.rt.
 -- Assumes nothing.
-use Rattle.std.specs.Prelude.{ℕ, ◌-◌, ◌≤◌, ◌<◌, ◌≡◌, List, length, if◌then◌else◌}
+use Rattle.std.specs.Prelude.{ℕ, ◌-◌, ◌≤◌, ◌<◌, ◌≡◌, List, Result, Ok, Err, length, if◌then◌else◌}
 use Rattle.std.proofs.Math.Option.{Option, some}
 use Rattle.std.proofs.Math.Option as Opt
+use Rattle.answer.specs.declared.Answer.{Answer}
 use Rattle.dataset.specs.Tree.{Span, Element, Elements, Items}
 use Rattle.dataset.specs.Reading.{Reading, fault, read}
 use Rattle.dataset.specs.Lookup.{element_of}
@@ -12,7 +13,6 @@ use Rattle.dataset.specs.declared.extent.Extent.{Extent}
 use Rattle.dataset.specs.declared.seek.Place.{Place}
 use Rattle.dataset.specs.declared.seek.Place.TheVariants as place
 use Rattle.dataset.specs.declared.seek.Sought.{Sought}
-use Rattle.dataset.specs.declared.seek.Sought.TheVariants as sought
 
 -- the extent lies inside the data
 pub record Lies (d : List ℕ) (x : Extent) : Type 0 where
@@ -40,14 +40,14 @@ Placed d Opt.none p = p ≡ place.Absent
 Placed d (some e) p = ElementPlaced d e p
 
 -- what `seek` answers in a data set whose elements are es: what stands under either tag, and the offset past the data set
-pub record SoughtAs (d : List ℕ) (tag tag' : ℕ) (es : Elements) (next : ℕ) (r : Sought) : Type 0 where
+pub record SoughtAs (d : List ℕ) (tag tag' : ℕ) (es : Elements) (next : ℕ) (r : Result Sought Answer) : Type 0 where
   pub first : Place
   pub second : Place
-  pub is : r ≡ sought.Past first second next
+  pub is : r ≡ Ok (record { first = first; second = second; next = next })
   pub placed : Placed d (element_of tag es) first
   pub placed' : Placed d (element_of tag' es) second
 
 -- by the reading of the data set: its fault, or that
-abbrev pub SoughtIn : List ℕ → (tag tag' : ℕ) → Reading Elements → Sought → Type 0
-SoughtIn d tag tag' (fault f) r = r ≡ sought.Refused f
+abbrev pub SoughtIn : List ℕ → (tag tag' : ℕ) → Reading Elements → Result Sought Answer → Type 0
+SoughtIn d tag tag' (fault f) r = r ≡ Err f
 SoughtIn d tag tag' (read es next) r = SoughtAs d tag tag' es next r

@@ -1,5 +1,5 @@
 -- The reading of a data set: "Of several faults the leftmost is given." (RULES, 2.20), or the tree of its elements. Assumes nothing.
-use Rattle.std.specs.Prelude.{ℕ, zero, suc, ◌+◌, ◌-◌, ◌≤◌, Bool, true, false, List, [], ◌∷◌, ◌≡◌, length, eqb, ltb, if◌then◌else◌}
+use Rattle.std.specs.Prelude.{ℕ, zero, suc, ◌+◌, ◌-◌, ◌≤◌, Bool, true, false, List, [], ◌∷◌, ◌≡◌, Result, Ok, Err, length, eqb, ltb, if◌then◌else◌}
 use Rattle.std.proofs.Math.Option.{Option, some}
 use Rattle.std.proofs.Math.Option as Opt
 use Rattle.answer.specs.declared.Answer.{Answer}
@@ -39,7 +39,7 @@ explicit = record { element = element_at; item = item_at }
 -- 8 bytes, is no part of the value.
 unfoldable pub by_header : (items : (delimited : Bool) (stop start : ℕ) → Reading Items) (parts : (start : ℕ) → Reading (List Span)) (at : ℕ)
     → ElementHeader → Reading One
-by_header items parts at (ElementHeader.refused number position) = fault (fault_at number position)
+by_header items parts at (ElementHeader.refused a) = fault a
 by_header items parts at (ElementHeader.ends next) = read ended next
 by_header items parts at (ElementHeader.value tag vr start stop) = read (element (value at tag vr (span start stop))) stop
 by_header items parts at (ElementHeader.sequence tag start stop delimited) = do
@@ -59,7 +59,7 @@ by_one elements (element e, next) = do
 -- Items are one item and the rest. Handed in are the readers of an item's elements and of the rest.
 unfoldable pub by_item : (elements : (delimited : Bool) (stop start : ℕ) → Reading Elements) (items : (next : ℕ) → Reading Items) (at : ℕ)
     → ItemHeader → Reading Items
-by_item elements items at (ItemHeader.refused number position) = fault (fault_at number position)
+by_item elements items at (ItemHeader.refused a) = fault a
 by_item elements items at (ItemHeader.ends next) = read last next
 by_item elements items at (ItemHeader.item start stop delimited) = do
   (inside, next) ← elements delimited stop start
@@ -68,7 +68,7 @@ by_item elements items at (ItemHeader.item start stop delimited) = do
 
 -- Fragments are one fragment and the rest: "Nothing inside a fragment .. is examined." (2.19). Handed in is the reader of the rest.
 unfoldable pub by_fragment : (parts : (next : ℕ) → Reading (List Span)) → ItemHeader → Reading (List Span)
-by_fragment parts (ItemHeader.refused number position) = fault (fault_at number position)
+by_fragment parts (ItemHeader.refused a) = fault a
 by_fragment parts (ItemHeader.ends next) = read [] next
 by_fragment parts (ItemHeader.item start stop delimited) = do
   (rest, after) ← parts stop
@@ -190,8 +190,8 @@ handed_on (fault f) = fault f
 handed_on (read ended next) = read Opt.none next
 handed_on (read (element e) next) = read (some (record { tag = tag_of e; vr = vr_of e; span = span_of e })) next
 
--- the cases of OneOutcome (src/reading.rt), by their values (13.2); a refusal has its number, the other two number 0
-abbrev pub one_case : OneOutcome → Reading (Option Outline)
-one_case (one.Refused f) = fault f
-one_case (one.End next) = read Opt.none next
-one_case (one.Element tag vr start end next) = read (some (record { tag = tag; vr = vr; span = span start end })) next
+-- what `read_one` gives (src/reading.rt), by its values (13.2): a refusal, or a case of OneOutcome
+abbrev pub one_case : Result OneOutcome Answer → Reading (Option Outline)
+one_case (Err f) = fault f
+one_case (Ok (one.End next)) = read Opt.none next
+one_case (Ok (one.Element tag vr start end next)) = read (some (record { tag = tag; vr = vr; span = span start end })) next

@@ -1,32 +1,13 @@
 // Numbers, tags and VRs in a data set: a number's low byte first, a VR's first letter first.
 ghost use Rattle.std.specs.Prelude.{◌≡◌, ◌+◌, ◌<◌, ◌≤◌, length};
-ghost use Rattle.dataset.specs.Bytes.{num16, num32, tag_at, tag_in, tag_case, vr_at};
-
-// The tag at a place, or none.
-#[derive(Clone, Copy)]
-pub enum TagIn {
-    Absent,
-    Tag(u32),
-}
-
-fn wide(b: u8) -> u32
-    ensures { (result ≡ b) × (result < 256) }
-{
-    b as u32
-}
-
-fn wide16(b: u8) -> u16
-    ensures { (result ≡ b) × (result < 256) }
-{
-    b as u16
-}
+ghost use Rattle.dataset.specs.Bytes.{num16, num32, tag_at, tag_in, vr_at};
 
 // The two-byte number at i.
 pub(crate) fn number16(d: &[u8], i: usize) -> u32
     requires { i + 2 ≤ length d.now }
     ensures { (result ≡ num16 d.now i) × (result < 65536) }
 {
-    wide(d[i]) + 256 * wide(d[i + 1])
+    d[i] as u32 + 256 * d[i + 1] as u32
 }
 
 // The four-byte number at i.
@@ -46,16 +27,13 @@ pub(crate) fn tag_at(d: &[u8], i: usize) -> u32
 }
 
 // The tag at i, or none where four bytes do not stand there.
-pub fn tag_in(s: &[u8], i: usize) -> TagIn
-    ensures { tag_case result ≡ tag_in s.now i }
+pub fn tag_in(s: &[u8], i: usize) -> Option<u32>
+    ensures { result ≡ tag_in s.now i }
 {
-    if s.len() < 4 {
-        return TagIn::Absent;
+    if s.len() < 4 || s.len() - 4 < i {
+        return None;
     }
-    if s.len() - 4 < i {
-        return TagIn::Absent;
-    }
-    TagIn::Tag(tag_at(s, i))
+    Some(tag_at(s, i))
 }
 
 // The VR of the element at i.
@@ -63,5 +41,5 @@ pub(crate) fn vr_at(d: &[u8], i: usize) -> u16
     requires { i + 6 ≤ length d.now }
     ensures { result ≡ vr_at d.now i }
 {
-    wide16(d[i + 4]) * 256 + wide16(d[i + 5])
+    d[i + 4] as u16 * 256 + d[i + 5] as u16
 }

@@ -1,13 +1,15 @@
 // Where a data set, or the items of a sequence, lie; and the extent of one item.
 ghost use Rattle.std.specs.Prelude.{◌≡◌};
+ghost use Rattle.answer.specs.Step.{test_by};
 ghost use Rattle.dataset.specs.Extent.{whole_of, outside_answer, opened_item, opened_case};
 
 use crate::header::ItemHeader;
 use crate::{header, reading};
 use answer::Answer;
+use answer::refusal::Refusal;
 
-// From `from` up to `stop`, or to a delimiter before it; `left` levels of sequences may follow.
-#[derive(Clone, Copy)]
+// From `from` up to `stop`, or to a delimiter before it (`delimited`); `left` levels of sequences may follow (above 16 as 16).
+#[derive(Clone, Copy, Debug, PartialEq, Eq)]
 pub struct Extent {
     pub delimited: bool,
     pub left: u32,
@@ -16,10 +18,8 @@ pub struct Extent {
 }
 
 // What stands in an item's place.
-#[derive(Clone, Copy)]
+#[derive(Clone, Copy, Debug, PartialEq, Eq)]
 pub enum OpenedItem {
-    // the first fault
-    Refused(Answer),
     // the items end here; what follows them is at this offset
     End(usize),
     // an item, by the extent of its data set
@@ -39,37 +39,30 @@ pub fn whole(size: usize) -> Extent
 }
 
 // 2, where an extent does not lie inside the data. Whoever walks over a data set in an extent that a caller gives asks this first.
-pub fn outside_answer(d: &[u8], x: Extent) -> Answer
-    ensures { result ≡ outside_answer d.now x }
+pub fn outside_answer(d: &[u8], x: Extent) -> Result<(), Answer>
+    ensures { result ≡ test_by (outside_answer d.now x) }
 {
     if header::is_outside(d, x.stop, x.from) {
-        return header::fault(2, x.from);
+        return Err(Refusal::TooFewBytes.at(x.from));
     }
-    Answer::accepted(0)
+    Ok(())
 }
 
-// What stands at `at` in an item's place, among items that lie in x.
-pub fn open_item(d: &[u8], x: Extent, at: usize) -> OpenedItem
+// What stands at `at` in an item's place, among items that lie in x; or the first fault.
+pub fn open_item(d: &[u8], x: Extent, at: usize) -> Result<OpenedItem, Answer>
     ensures { opened_case result ≡ opened_item d.now x at }
 {
-    match header::item_header(d, true, x.delimited, x.stop, at) {
-        ItemHeader::Refused { number, position } => OpenedItem::Refused(header::fault(
-            number, position,
-        )),
-        ItemHeader::End(next) => OpenedItem::End(next),
+    match header::item_header(d, true, Extent { from: at, ..x })? {
+        ItemHeader::End(next) => Ok(OpenedItem::End(next)),
         ItemHeader::Item {
             start,
             end,
             delimited,
-        } => {
-            let left = reading::deeper(x.left);
-            let inside = Extent {
-                delimited,
-                left,
-                stop: end,
-                from: start,
-            };
-            OpenedItem::Item(inside)
-        }
+        } => Ok(OpenedItem::Item(Extent {
+            delimited,
+            left: reading::deeper(x.left),
+            stop: end,
+            from: start,
+        })),
     }
 }

@@ -1,20 +1,17 @@
 // What stands at an offset of a data set, in an element's place or in an item's: the checks of one header, in their order.
 ghost use Rattle.std.specs.Prelude.{◌≡◌, ◌+◌, ◌≤◌, length};
-ghost use Rattle.dataset.specs.Header as spec;
-ghost use Rattle.dataset.specs.Header.{fault_at, element_case, item_case, outside, bad_length, too_deep, undefined_by, defined_by, value_by, long_at, vr_on_at, ends_at, closed_by, element_at, item_by, item_at};
+ghost use Rattle.dataset.specs.Header.{element_case, item_case, outside, bad_length, too_deep, undefined_by, defined_by, value_by, long_at, vr_on_at, ends_at, closed_by, element_at, item_by, item_at};
+ghost use Rattle.dataset.specs.Place.{Lies};
 
+use crate::extent::Extent;
 use crate::vr::Form;
 use crate::{bytes, tags, vr};
 use answer::Answer;
+use answer::refusal::Refusal;
 
 // What stands in an element's place.
-#[derive(Clone, Copy)]
+#[derive(Clone, Copy, Debug, PartialEq, Eq)]
 pub enum ElementHeader {
-    // refused, with this number, at this header
-    Refused {
-        number: u8,
-        position: usize,
-    },
     // the data set ends here; what follows it is at this offset
     End(usize),
     // a value that is not looked into, from start to end
@@ -39,13 +36,8 @@ pub enum ElementHeader {
 }
 
 // What stands in an item's or a fragment's place.
-#[derive(Clone, Copy)]
+#[derive(Clone, Copy, Debug, PartialEq, Eq)]
 pub enum ItemHeader {
-    // refused, with this number, at this header
-    Refused {
-        number: u8,
-        position: usize,
-    },
     // the items or fragments end here; what follows them is at this offset
     End(usize),
     // from start up to end, or to an item delimiter before end
@@ -58,36 +50,9 @@ pub enum ItemHeader {
 
 const UNDEFINED: usize = 0xFFFFFFFF;
 
-// The fault of a refused header. Every fault of the reading but 1 is made here.
-pub fn fault(number: u8, position: usize) -> Answer
-    ensures { result ≡ fault_at number position }
-{
-    Answer::refused(number, position)
-}
-
-// The refusal of the header at `at`, in an element's place.
-fn refused_element(at: usize, number: u8) -> ElementHeader
-    ensures { element_case result ≡ spec.ElementHeader.refused number at }
-{
-    ElementHeader::Refused {
-        number,
-        position: at,
-    }
-}
-
-// The refusal of the header at `at`, in the place of an item or a fragment.
-fn refused_item(at: usize, number: u8) -> ItemHeader
-    ensures { item_case result ≡ spec.ItemHeader.refused number at }
-{
-    ItemHeader::Refused {
-        number,
-        position: at,
-    }
-}
-
 // A value, or a sequence of defined length.
 fn defined_by(tag: u32, vr: u16, start: usize, end: usize) -> ElementHeader
-    ensures { element_case result ≡ defined_by tag vr start end }
+    ensures { element_case (Ok result) ≡ defined_by tag vr start end }
 {
     if vr == vr::SQ {
         return ElementHeader::Sequence {
@@ -107,7 +72,7 @@ fn defined_by(tag: u32, vr: u16, start: usize, end: usize) -> ElementHeader
 
 // A sequence of undefined length, or fragments.
 fn undefined_by(tag: u32, vr: u16, stop: usize, start: usize) -> ElementHeader
-    ensures { element_case result ≡ undefined_by tag vr stop start }
+    ensures { element_case (Ok result) ≡ undefined_by tag vr stop start }
 {
     if vr == vr::SQ {
         return ElementHeader::Sequence {
@@ -137,32 +102,30 @@ fn too_deep(vr: u16, left: u32) -> bool
     (vr == vr::SQ) & (left == 0)
 }
 
-// The checks of a length and a value that starts at `start`, in the element at `at`: 7, 8 and the last 2.
+// The checks of a length and a value that starts at `start`, in the element at x.from: 7, 8 and the last 2.
 fn value_by(
     tag: u32,
     vr: u16,
-    left: u32,
-    stop: usize,
-    at: usize,
+    x: Extent,
     start: usize,
     len: usize,
-) -> ElementHeader
-    requires { start ≤ stop }
-    ensures { element_case result ≡ value_by tag vr left stop at start len }
+) -> Result<ElementHeader, Answer>
+    requires { start ≤ x.stop }
+    ensures { element_case result ≡ value_by tag vr x.left x.stop x.from start len }
 {
     if bad_length(vr, len) {
-        return refused_element(at, 7);
+        return Err(Refusal::BadLength.at(x.from));
     }
-    if too_deep(vr, left) {
-        return refused_element(at, 8);
+    if too_deep(vr, x.left) {
+        return Err(Refusal::TooDeep.at(x.from));
     }
     if len == UNDEFINED {
-        return undefined_by(tag, vr, stop, start);
+        return Ok(undefined_by(tag, vr, x.stop, start));
     }
-    if stop - start < len {
-        return refused_element(at, 2);
+    if x.stop - start < len {
+        return Err(Refusal::TooFewBytes.at(x.from));
     }
-    defined_by(tag, vr, start, start + len)
+    Ok(defined_by(tag, vr, start, start + len))
 }
 
 // Whether the extent does not lie inside the data, or ends before `at`.
@@ -172,144 +135,134 @@ pub(crate) fn is_outside(d: &[u8], stop: usize, at: usize) -> bool
     (d.len() < stop) | (stop < at)
 }
 
-// Whether an extent of defined length ends at `at`.
-fn ends_at(delimited: bool, stop: usize, at: usize) -> bool
-    ensures { result ≡ ends_at delimited stop at }
+// Whether an extent of defined length ends where it starts.
+fn ends_at(x: Extent) -> bool
+    ensures { result ≡ ends_at x.delimited x.stop x.from }
 {
-    !delimited & (at == stop)
+    !x.delimited & (x.from == x.stop)
 }
 
-// Whether the delimiter stands at `at`, with length 0, in an extent that it closes.
-fn closed_by(d: &[u8], delimiter: u32, delimited: bool, at: usize) -> bool
-    requires { at + 8 ≤ length d.now }
-    ensures { result ≡ closed_by d.now delimiter delimited at }
+// Whether the delimiter stands at the start of an extent that it closes, with length 0.
+fn closed_by(d: &[u8], delimiter: u32, x: Extent) -> bool
+    requires { x.from + 8 ≤ length d.now }
+    ensures { result ≡ closed_by d.now delimiter x.delimited x.from }
 {
-    if !delimited {
+    if !x.delimited {
         return false;
     }
-    (bytes::tag_at(d, at) == delimiter) & (bytes::number32(d, at + 4) == 0)
+    (bytes::tag_at(d, x.from) == delimiter) & (bytes::number32(d, x.from + 4) == 0)
 }
 
 // The checks at an element of the long form, from its second test of the bytes left on.
-fn long_form(d: &[u8], tag: u32, vr: u16, left: u32, stop: usize, at: usize) -> ElementHeader
-    requires { (at ≤ stop) × (stop ≤ length d.now) }
-    ensures { element_case result ≡ long_at d.now tag vr left stop at }
+fn long_form(d: &[u8], tag: u32, vr: u16, x: Extent) -> Result<ElementHeader, Answer>
+    requires { Lies d.now x }
+    ensures { element_case result ≡ long_at d.now tag vr x.left x.stop x.from }
 {
-    if stop - at < 12 {
-        return refused_element(at, 2);
+    let at = x.from;
+    if x.stop - at < 12 {
+        return Err(Refusal::TooFewBytes.at(at));
     }
     if bytes::number16(d, at + 6) != 0 {
-        return refused_element(at, 6);
+        return Err(Refusal::ReservedBytes.at(at));
     }
     let len = bytes::number32(d, at + 8);
-    value_by(tag, vr, left, stop, at, at + 12, len as usize)
+    value_by(tag, vr, x, at + 12, len as usize)
 }
 
 // The checks at an element from its VR on.
-fn vr_on(d: &[u8], tag: u32, left: u32, stop: usize, at: usize) -> ElementHeader
-    requires { (at + 8 ≤ stop) × (stop ≤ length d.now) }
-    ensures { element_case result ≡ vr_on_at d.now tag left stop at }
+fn vr_on(d: &[u8], tag: u32, x: Extent) -> Result<ElementHeader, Answer>
+    requires { (x.from + 8 ≤ x.stop) × (x.stop ≤ length d.now) }
+    ensures { element_case result ≡ vr_on_at d.now tag x.left x.stop x.from }
 {
+    let at = x.from;
     let vr = bytes::vr_at(d, at);
     match vr::form_of(vr) {
         Form::Short => {
             let len = bytes::number16(d, at + 6);
-            value_by(tag, vr, left, stop, at, at + 8, len as usize)
+            value_by(tag, vr, x, at + 8, len as usize)
         }
-        Form::Long => long_form(d, tag, vr, left, stop, at),
-        Form::Neither => refused_element(at, 5),
+        Form::Long => long_form(d, tag, vr, x),
+        Form::Neither => Err(Refusal::UnknownVr.at(at)),
     }
 }
 
-// What stands at `at` in an element's place: the checks at one element, in their order. The extent ends at `stop`, or before
-// it at an item delimiter (`delimited`); `left` is how many levels of sequences may follow (above 16 as 16), and `least` the
-// least tag that is above the one before. A stop past the data, or an at past stop, is 2.
-pub fn header(
-    d: &[u8],
-    delimited: bool,
-    left: u32,
-    stop: usize,
-    at: usize,
-    least: u64,
-) -> ElementHeader
-    ensures { element_case result ≡ element_at d.now delimited left stop at least }
+// What stands at x.from in an element's place, of a data set whose rest lies in x; or a refusal: the checks at one element, in their order.
+// `least` is the least tag that is above the one before. A stop past the data, or a start past stop, is 2.
+pub fn header(d: &[u8], x: Extent, least: u64) -> Result<ElementHeader, Answer>
+    ensures { element_case result ≡ element_at d.now x.delimited x.left x.stop x.from least }
 {
-    if is_outside(d, stop, at) {
-        return refused_element(at, 2);
+    let at = x.from;
+    if is_outside(d, x.stop, at) {
+        return Err(Refusal::TooFewBytes.at(at));
     }
-    if ends_at(delimited, stop, at) {
-        return ElementHeader::End(at);
+    if ends_at(x) {
+        return Ok(ElementHeader::End(at));
     }
-    if stop - at < 8 {
-        return refused_element(at, 2);
+    if x.stop - at < 8 {
+        return Err(Refusal::TooFewBytes.at(at));
     }
-    if closed_by(d, tags::ITEM_DELIMITATION_ITEM, delimited, at) {
-        return ElementHeader::End(at + 8);
+    if closed_by(d, tags::ITEM_DELIMITATION_ITEM, x) {
+        return Ok(ElementHeader::End(at + 8));
     }
     if bytes::number16(d, at) == 0xFFFE {
-        return refused_element(at, 3);
+        return Err(Refusal::MisplacedTag.at(at));
     }
     let tag = bytes::tag_at(d, at);
     if (tag as u64) < least {
-        return refused_element(at, 4);
+        return Err(Refusal::TagOrder.at(at));
     }
-    vr_on(d, tag, left, stop, at)
+    vr_on(d, tag, x)
 }
 
-// The item or fragment at `at`, by its length.
-fn item_by(in_sequence: bool, stop: usize, at: usize, start: usize, len: usize) -> ItemHeader
-    requires { start ≤ stop }
-    ensures { item_case result ≡ item_by in_sequence stop at start len }
+// The item or fragment at x.from, by its length.
+fn item_by(in_sequence: bool, x: Extent, start: usize, len: usize) -> Result<ItemHeader, Answer>
+    requires { start ≤ x.stop }
+    ensures { item_case result ≡ item_by in_sequence x.stop x.from start len }
 {
     if len == UNDEFINED {
         if in_sequence {
-            return ItemHeader::Item {
+            return Ok(ItemHeader::Item {
                 start,
-                end: stop,
+                end: x.stop,
                 delimited: true,
-            };
+            });
         }
-        return refused_item(at, 7);
+        return Err(Refusal::BadLength.at(x.from));
     }
     if len % 2 == 1 {
-        return refused_item(at, 7);
+        return Err(Refusal::BadLength.at(x.from));
     }
-    if stop - start < len {
-        return refused_item(at, 2);
+    if x.stop - start < len {
+        return Err(Refusal::TooFewBytes.at(x.from));
     }
-    ItemHeader::Item {
+    Ok(ItemHeader::Item {
         start,
         end: start + len,
         delimited: false,
-    }
+    })
 }
 
-// What stands at `at` in the place of an item of a sequence (`in_sequence`) or of a fragment. The extent ends at `stop`, or
-// before it at a sequence delimiter (`delimited`). A stop past the data, or an at past stop, is 2.
-pub fn item_header(
-    d: &[u8],
-    in_sequence: bool,
-    delimited: bool,
-    stop: usize,
-    at: usize,
-) -> ItemHeader
-    ensures { item_case result ≡ item_at d.now in_sequence delimited stop at }
+// What stands at x.from in the place of an item of a sequence (`in_sequence`) or of a fragment, where the rest of these lies in x; or a
+// refusal. A stop past the data, or a start past stop, is 2.
+pub fn item_header(d: &[u8], in_sequence: bool, x: Extent) -> Result<ItemHeader, Answer>
+    ensures { item_case result ≡ item_at d.now in_sequence x.delimited x.stop x.from }
 {
-    if is_outside(d, stop, at) {
-        return refused_item(at, 2);
+    let at = x.from;
+    if is_outside(d, x.stop, at) {
+        return Err(Refusal::TooFewBytes.at(at));
     }
-    if ends_at(delimited, stop, at) {
-        return ItemHeader::End(at);
+    if ends_at(x) {
+        return Ok(ItemHeader::End(at));
     }
-    if stop - at < 8 {
-        return refused_item(at, 2);
+    if x.stop - at < 8 {
+        return Err(Refusal::TooFewBytes.at(at));
     }
-    if closed_by(d, tags::SEQUENCE_DELIMITATION_ITEM, delimited, at) {
-        return ItemHeader::End(at + 8);
+    if closed_by(d, tags::SEQUENCE_DELIMITATION_ITEM, x) {
+        return Ok(ItemHeader::End(at + 8));
     }
     if bytes::tag_at(d, at) != tags::ITEM {
-        return refused_item(at, 3);
+        return Err(Refusal::MisplacedTag.at(at));
     }
     let len = bytes::number32(d, at + 4);
-    item_by(in_sequence, stop, at, at + 8, len as usize)
+    item_by(in_sequence, x, at + 8, len as usize)
 }

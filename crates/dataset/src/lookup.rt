@@ -3,17 +3,27 @@ ghost use Rattle.std.specs.Prelude.{◌≡◌, ◌≤◌, eqb};
 ghost use Rattle.dataset.specs.Lookup.{absent, present, found, Lookup};
 ghost use Rattle.dataset.specs.Inner.Outcomes.{or_next};
 
-use crate::reading;
+use crate::extent::Extent;
 use crate::reading::OneOutcome;
+use crate::{extent, reading};
 use answer::Answer;
 
-// The reading's answer, whether the tag stands there, and where its value lies.
-#[derive(Clone, Copy)]
+// The reading's answer, whether the tag stands there, and where its value lies. A tag that is absent has a place, too (RULES, 3.2), and C
+// takes the three apart: so these are no Option.
+#[derive(Clone, Copy, Debug, PartialEq, Eq)]
 pub struct Found {
     pub answer: Answer,
     pub present: bool,
     pub start: usize,
     pub length: usize,
+}
+
+// The same with the value as a part of the data set.
+#[derive(Clone, Copy, Debug)]
+pub struct FoundPart<'a> {
+    pub answer: Answer,
+    pub present: bool,
+    pub part: &'a [u8],
 }
 
 // The empty part at the end of a data set of `size` bytes.
@@ -33,9 +43,8 @@ fn present_at(start: usize, end: usize) -> Found
     requires { start ≤ end }
     ensures { result ≡ present start end }
 {
-    let answer = Answer::accepted(0);
     Found {
-        answer,
+        answer: Answer::accepted(0),
         present: true,
         start,
         length: end - start,
@@ -61,24 +70,24 @@ pub fn find(d: &[u8], tag: u32) -> Found
     ensures { result ≡ found d.now tag }
 {
     let size = d.len();
-    let large = reading::size_answer(d);
-    if large.number != 0 {
+    if let Err(large) = reading::size_answer(d) {
         return absent_at_end(large, size);
     }
+    let x = extent::whole(size);
     let mut at = 0;
     let mut least: u64 = 0;
     let mut before = absent_at_end(Answer::accepted(0), size);
     loop {
-        match reading::read_one(d, false, reading::LEVELS, size, at, least) {
-            OneOutcome::Refused(fault) => return absent_at_end(fault, size),
-            OneOutcome::End(_) => return before,
-            OneOutcome::Element {
+        match reading::read_one(d, Extent { from: at, ..x }, least) {
+            Err(fault) => return absent_at_end(fault, size),
+            Ok(OneOutcome::End(_)) => return before,
+            Ok(OneOutcome::Element {
                 tag: here,
-                vr: _,
                 start,
                 end,
                 next,
-            } => {
+                ..
+            }) => {
                 before = or_next(before, tag, here, start, end);
                 at = next;
                 least = here as u64 + 1;
@@ -87,23 +96,14 @@ pub fn find(d: &[u8], tag: u32) -> Found
     }
 }
 
-// The part of the data set that is the value of a tag at the top level; beside it the number and position of the reading, and
-// whether the tag stands there.
-pub fn lookup<'a>(
-    d: &'a [u8],
-    tag: u32,
-    number: &mut u8,
-    position: &mut usize,
-    present: &mut bool,
-) -> &'a [u8]
-    ensures { Lookup (found d.now tag) d.entry.ref_ptr d.now result.ref_ptr result.now number.new position.new present.new }
+// The part of the data set that is the value of a tag at the top level; beside it the reading's answer, and whether the tag stands there.
+pub fn lookup<'a>(d: &'a [u8], tag: u32) -> FoundPart<'a>
+    ensures { Lookup (found d.now tag) d.entry.ref_ptr d.now result.part.ref_ptr result.part.now result.answer result.present }
 {
     let f = find(d, tag);
-    let answer = f.answer;
-    *number = answer.number;
-    *position = answer.position;
-    *present = f.present;
-    let start = f.start;
-    let end = start + f.length;
-    &d[start..end]
+    FoundPart {
+        answer: f.answer,
+        present: f.present,
+        part: &d[f.start..f.start + f.length],
+    }
 }

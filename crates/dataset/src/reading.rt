@@ -1,13 +1,17 @@
 // The reading of a data set: the first fault from the left, or none. Each header is read once and each offset is passed once,
 // so that the cost is linear in the bytes: a reader goes on from where the reader below it stopped.
-ghost use Rattle.std.specs.Prelude.{◌≡◌, ◌<◌, ◌≤◌, length};
+ghost use Rattle.std.specs.Prelude.{◌≡◌, ◌<◌, ◌≤◌};
+ghost use Rattle.answer.specs.Step.{test_by};
 ghost use Rattle.dataset.specs.Reading.{explicit, elements_at, items_at, fragments_at, one_at, handed_on, one_case, answer_of, size_answer, data_set};
 ghost use Rattle.dataset.specs.Reading as spec;
-ghost use Rattle.dataset.specs.Inner.Outcomes.{outcome_of, PastDelimiter, holding_of};
+ghost use Rattle.dataset.specs.Place.{Lies};
+ghost use Rattle.dataset.specs.Inner.Outcomes.{outcome_of, holding_of};
 
+use crate::extent::{Extent, OpenedItem};
 use crate::header::{ElementHeader, ItemHeader};
-use crate::{header, vr};
+use crate::{extent, header, vr};
 use answer::Answer;
+use answer::refusal::Refusal;
 
 // How many bytes a data set may have.
 const SIZE_LIMIT: usize = 1048576;
@@ -19,27 +23,12 @@ pub const LEVELS: u32 = 16;
 pub fn deeper(left: u32) -> u32
     ensures { result ≡ spec.deeper left }
 {
-    if LEVELS < left {
-        return LEVELS - 1;
-    }
-    if left == 0 {
-        return 0;
-    }
-    left - 1
-}
-
-// What a reader answers: the first fault, or the offset past what it read.
-#[derive(Clone, Copy)]
-pub(crate) enum Outcome {
-    Refused(Answer),
-    Next(usize),
+    left.min(LEVELS).saturating_sub(1)
 }
 
 // What is read in an element's place.
-#[derive(Clone, Copy)]
+#[derive(Clone, Copy, Debug, PartialEq, Eq)]
 pub enum OneOutcome {
-    // the first fault
-    Refused(Answer),
     // the data set ends here; what follows it is at this offset
     End(usize),
     // an element; its value lies from start to end, without a closing delimiter, and what follows it is at next
@@ -52,120 +41,88 @@ pub enum OneOutcome {
     },
 }
 
-// Reads the fragments from `from` on, to their delimiter.
-fn read_fragments(d: &[u8], left: u32, stop: usize, from: usize) -> Outcome
-    requires { (from ≤ stop) × (stop ≤ length d.now) }
-    ensures { result ≡ outcome_of (fragments_at explicit d.now left stop from) }
+// Reads the fragments in x, to their delimiter: the first fault, or the offset past them.
+fn read_fragments(d: &[u8], x: Extent) -> Result<usize, Answer>
+    requires { Lies d.now x }
+    ensures { result ≡ outcome_of (fragments_at explicit d.now x.left x.stop x.from) }
 {
-    let mut at = from;
+    let mut at = x.from;
     loop {
-        match header::item_header(d, false, true, stop, at) {
-            ItemHeader::Refused { number, position } => return Outcome::Refused(header::fault(
-                number, position,
-            )),
-            ItemHeader::End(next) => return Outcome::Next(next),
-            ItemHeader::Item {
-                start: _,
-                end,
-                delimited: _,
-            } => at = end,
+        match header::item_header(d, false, Extent { delimited: true, from: at, ..x })? {
+            ItemHeader::End(next) => return Ok(next),
+            ItemHeader::Item { end, .. } => at = end,
         }
     }
 }
 
-// An element that holds items or fragments, by what their reader answers: its value ends before a closing delimiter of 8 bytes.
-fn holding(tag: u32, vr: u16, start: usize, delimited: bool, inside: Outcome) -> OneOutcome
-    requires { PastDelimiter inside }
-    ensures { result ≡ holding_of tag vr start delimited inside }
+// An element that holds items or fragments, by the offset past them: its value ends before a closing delimiter of 8 bytes.
+fn holding(tag: u32, vr: u16, start: usize, delimited: bool, next: usize) -> OneOutcome
+    requires { 8 ≤ next }
+    ensures { result ≡ holding_of tag vr start delimited next }
 {
-    match inside {
-        Outcome::Refused(fault) => OneOutcome::Refused(fault),
-        Outcome::Next(next) => {
-            if delimited {
-                return OneOutcome::Element {
-                    tag,
-                    vr,
-                    start,
-                    end: next - 8,
-                    next,
-                };
-            }
-            OneOutcome::Element {
-                tag,
-                vr,
-                start,
-                end: next,
-                next,
-            }
-        }
+    OneOutcome::Element {
+        tag,
+        vr,
+        start,
+        end: if delimited { next - 8 } else { next },
+        next,
     }
 }
 
-// Reads what stands at `at` in an element's place: its header, and its items or fragments. Parameters as of header::header; a
-// stop past the data, or an at past stop, is 2 at `at`.
+// Reads what stands at x.from in an element's place: its header, and its items or fragments. Parameters as of header::header; a
+// stop past the data, or a start past stop, is 2 there.
 #[cycle(read_elements_read_items_read_one)]
-pub fn read_one(
-    d: &[u8],
-    delimited: bool,
-    left: u32,
-    stop: usize,
-    at: usize,
-    least: u64,
-) -> OneOutcome
-    ensures { one_case result ≡ handed_on (one_at explicit d.now delimited left stop at least) }
+pub fn read_one(d: &[u8], x: Extent, least: u64) -> Result<OneOutcome, Answer>
+    ensures { one_case result ≡ handed_on (one_at explicit d.now x.delimited x.left x.stop x.from least) }
 {
-    match header::header(d, delimited, left, stop, at, least) {
-        ElementHeader::Refused { number, position } => OneOutcome::Refused(header::fault(
-            number, position,
-        )),
-        ElementHeader::End(next) => OneOutcome::End(next),
+    match header::header(d, x, least)? {
+        ElementHeader::End(next) => Ok(OneOutcome::End(next)),
         ElementHeader::Value {
             tag,
             vr,
             start,
             end,
-        } => OneOutcome::Element {
+        } => Ok(OneOutcome::Element {
             tag,
             vr,
             start,
             end,
             next: end,
-        },
+        }),
         ElementHeader::Sequence {
             tag,
             start,
             end,
-            delimited: inner,
+            delimited,
         } => {
-            let items = read_items(d, inner, left, end, start);
-            holding(tag, vr::SQ, start, inner, items)
+            let inside = Extent {
+                delimited,
+                left: x.left,
+                stop: end,
+                from: start,
+            };
+            let next = read_items(d, inside)?;
+            Ok(holding(tag, vr::SQ, start, delimited, next))
         }
         ElementHeader::Fragments { tag, start } => {
-            let fragments = read_fragments(d, left, stop, start);
-            holding(tag, vr::OB, start, true, fragments)
+            let next = read_fragments(d, Extent { from: start, ..x })?;
+            Ok(holding(tag, vr::OB, start, true, next))
         }
     }
 }
 
-// Reads the elements of a data set from `from` on, up to `stop` or to an item delimiter before it.
+// Reads the elements of the data set in x: the first fault, or the offset past them.
 #[cycle(read_elements_read_items_read_one)]
-fn read_elements(d: &[u8], delimited: bool, left: u32, stop: usize, from: usize) -> Outcome
-    requires { (from ≤ stop) × (stop ≤ length d.now) }
-    ensures { result ≡ outcome_of (elements_at explicit d.now delimited left stop from 0) }
+fn read_elements(d: &[u8], x: Extent) -> Result<usize, Answer>
+    requires { Lies d.now x }
+    ensures { result ≡ outcome_of (elements_at explicit d.now x.delimited x.left x.stop x.from 0) }
 {
-    let mut at = from;
+    let mut at = x.from;
     let mut least: u64 = 0;
     loop {
-        match read_one(d, delimited, left, stop, at, least) {
-            OneOutcome::Refused(fault) => return Outcome::Refused(fault),
-            OneOutcome::End(next) => return Outcome::Next(next),
-            OneOutcome::Element {
-                tag,
-                vr: _,
-                start: _,
-                end: _,
-                next,
-            } => {
+        match read_one(d, Extent { from: at, ..x }, least)? {
+            OneOutcome::End(next) => return Ok(next),
+            OneOutcome::Element { tag, next, .. } => {
                 at = next;
                 least = tag as u64 + 1;
             }
@@ -173,53 +130,45 @@ fn read_elements(d: &[u8], delimited: bool, left: u32, stop: usize, from: usize)
     }
 }
 
-// Reads the items of a sequence from `from` on, up to `stop` or to a sequence delimiter before it.
+// Reads the items in x: the first fault, or the offset past them.
 #[cycle(read_elements_read_items_read_one)]
-fn read_items(d: &[u8], delimited: bool, left: u32, stop: usize, from: usize) -> Outcome
-    requires { (0 < left) × (from ≤ stop) × (stop ≤ length d.now) }
-    ensures { result ≡ outcome_of (items_at explicit d.now delimited left stop from) }
+fn read_items(d: &[u8], x: Extent) -> Result<usize, Answer>
+    requires { (0 < x.left) × Lies d.now x }
+    ensures { result ≡ outcome_of (items_at explicit d.now x.delimited x.left x.stop x.from) }
 {
-    let mut at = from;
+    let mut at = x.from;
     loop {
-        match header::item_header(d, true, delimited, stop, at) {
-            ItemHeader::Refused { number, position } => return Outcome::Refused(header::fault(
-                number, position,
-            )),
-            ItemHeader::End(next) => return Outcome::Next(next),
-            ItemHeader::Item {
-                start,
-                end,
-                delimited: inner,
-            } => {
-                match read_elements(d, inner, deeper(left), end, start) {
-                    Outcome::Refused(fault) => return Outcome::Refused(fault),
-                    Outcome::Next(next) => at = next,
-                }
-            }
+        match extent::open_item(d, x, at)? {
+            OpenedItem::End(next) => return Ok(next),
+            OpenedItem::Item(inside) => at = read_elements(d, inside)?,
         }
     }
 }
 
 // 1: whether a data set is larger than it may be.
-pub fn size_answer(d: &[u8]) -> Answer
-    ensures { result ≡ size_answer d.now }
+pub fn size_answer(d: &[u8]) -> Result<(), Answer>
+    ensures { result ≡ test_by (size_answer d.now) }
 {
     if SIZE_LIMIT < d.len() {
-        return Answer::refused(1, 0);
+        return Err(Refusal::TooLarge.at(0));
     }
-    Answer::accepted(0)
+    Ok(())
+}
+
+// Reads a data set: its first fault from the left, or the offset past it.
+fn read_whole(d: &[u8]) -> Result<usize, Answer>
+    ensures { result ≡ outcome_of (data_set d.now) }
+{
+    size_answer(d)?;
+    read_elements(d, extent::whole(d.len()))
 }
 
 // Reads a data set: its first fault from the left, or number 0.
 pub fn read(d: &[u8]) -> Answer
     ensures { result ≡ answer_of (data_set d.now) }
 {
-    let size = size_answer(d);
-    if size.number != 0 {
-        return size;
-    }
-    match read_elements(d, false, LEVELS, d.len(), 0) {
-        Outcome::Refused(fault) => fault,
-        Outcome::Next(_) => Answer::accepted(0),
+    match read_whole(d) {
+        Err(fault) => fault,
+        Ok(_) => Answer::accepted(0),
     }
 }

@@ -9,8 +9,8 @@ use crate::reading::OneOutcome;
 use crate::{extent, reading, vr};
 use answer::Answer;
 
-// What stands under a tag.
-#[derive(Clone, Copy)]
+// What stands under a tag: whoever asks wants one of these four, so that an Option round three of them is no plainer.
+#[derive(Clone, Copy, Debug, PartialEq, Eq)]
 pub enum Place {
     Absent,
     // a value that is not looked into, from start to end
@@ -21,30 +21,18 @@ pub enum Place {
     Fragments,
 }
 
-// What stands under two tags, and the offset past the data set; or the first fault.
-#[derive(Clone, Copy)]
-pub enum Sought {
-    Refused(Answer),
-    Past {
-        first: Place,
-        second: Place,
-        next: usize,
-    },
+// What stands under two tags, and the offset past the data set.
+#[derive(Clone, Copy, Debug, PartialEq, Eq)]
+pub struct Sought {
+    pub first: Place,
+    pub second: Place,
+    pub next: usize,
 }
 
 fn is_there(p: Place) -> bool
     ensures { result ≡ is_there p }
 {
-    match p {
-        Place::Absent => false,
-        Place::Value {
-            vr: _,
-            start: _,
-            end: _,
-        } => true,
-        Place::Items(_) => true,
-        Place::Fragments => true,
-    }
+    !matches!(p, Place::Absent)
 }
 
 // An element of a data set in x, by what its reader hands on: where its value ends, and where what follows it starts, differ by the
@@ -59,21 +47,18 @@ fn place_by(x: Extent, vr: u16, start: usize, end: usize, next: usize) -> Place
         return Place::Value { vr, start, end };
     }
     if end != next {
-        let delimited = Extent {
+        return Place::Items(Extent {
             delimited: true,
-            left: x.left,
-            stop: x.stop,
             from: start,
-        };
-        return Place::Items(delimited);
+            ..x
+        });
     }
-    let defined = Extent {
+    Place::Items(Extent {
         delimited: false,
-        left: x.left,
         stop: end,
         from: start,
-    };
-    Place::Items(defined)
+        ..x
+    })
 }
 
 // What stands under a tag after one element more, of the tag `here`: the first of the tag counts.
@@ -90,7 +75,7 @@ fn or_here(before: Place, tag: u32, here: u32, p: Place) -> Place
 }
 
 // What stands under two tags in a data set that lies in x, in one walk over it.
-fn seek_in(d: &[u8], x: Extent, first: u32, second: u32) -> Sought
+fn seek_in(d: &[u8], x: Extent, first: u32, second: u32) -> Result<Sought, Answer>
     requires { Lies d.now x }
     ensures { SoughtIn d.now first second (elements_in d.now x) result }
 {
@@ -99,13 +84,12 @@ fn seek_in(d: &[u8], x: Extent, first: u32, second: u32) -> Sought
     let mut one = Place::Absent;
     let mut other = Place::Absent;
     loop {
-        match reading::read_one(d, x.delimited, x.left, x.stop, at, least) {
-            OneOutcome::Refused(fault) => return Sought::Refused(fault),
-            OneOutcome::End(next) => return Sought::Past {
+        match reading::read_one(d, Extent { from: at, ..x }, least)? {
+            OneOutcome::End(next) => return Ok(Sought {
                 first: one,
                 second: other,
                 next,
-            },
+            }),
             OneOutcome::Element {
                 tag,
                 vr,
@@ -123,13 +107,10 @@ fn seek_in(d: &[u8], x: Extent, first: u32, second: u32) -> Sought
     }
 }
 
-// What stands under two tags in the data set in x. A stop past the data, or a start past stop, is 2.
-pub fn seek(d: &[u8], x: Extent, first: u32, second: u32) -> Sought
+// What stands under two tags in the data set in x, or its first fault. A stop past the data, or a start past stop, is 2.
+pub fn seek(d: &[u8], x: Extent, first: u32, second: u32) -> Result<Sought, Answer>
     ensures { SoughtIn d.now first second (elements_in d.now x) result }
 {
-    let outside = extent::outside_answer(d, x);
-    if outside.number != 0 {
-        return Sought::Refused(outside);
-    }
+    extent::outside_answer(d, x)?;
     seek_in(d, x, first, second)
 }

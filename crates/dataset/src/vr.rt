@@ -1,4 +1,5 @@
-// The VRs, and the form of a VR's header. A VR is a number: the code of its first letter times 256, and that of its second.
+// The VRs, and the form of a VR's header. A VR is a number: the code of its first letter times 256, and that of its second. The rules name
+// seven of them; an enum of all would be a third list of them, beside those of the two forms.
 ghost use Rattle.std.specs.Prelude.{◌≡◌};
 ghost use Rattle.dataset.specs.Vr.{form_of, one_of};
 
@@ -16,7 +17,8 @@ pub const UN: u16 = 0x554E;
 
 pub const US: u16 = 0x5553;
 
-#[derive(Clone, Copy)]
+// The form of a header, or no form: three cases of one question, asked at one place, so that an Option round two of them is no plainer.
+#[derive(Clone, Copy, Debug, PartialEq, Eq)]
 pub(crate) enum Form {
     // a two-byte length
     Short,
@@ -57,14 +59,7 @@ const LONG_FORM: [u16; 6] = [
 fn one_of(vr: u16, table: &[u16]) -> bool
     ensures { result ≡ one_of vr table.now }
 {
-    let mut i = 0;
-    while i < table.len() {
-        if table[i] == vr {
-            return true;
-        }
-        i += 1;
-    }
-    false
+    table.contains(&vr)
 }
 
 pub(crate) fn form_of(vr: u16) -> Form
