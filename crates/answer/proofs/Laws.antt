@@ -1,2 +1,3 @@
 pub mod OrElse
 pub mod Refusals
+pub mod Steps
