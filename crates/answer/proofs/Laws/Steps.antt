@@ -11,6 +11,11 @@ use Rattle.answer.specs.Step.{step_by, test_by}
 use Rattle.answer.specs.declared.Answer.{Answer}
 use Rattle.answer.proofs.Laws.OrElse.{or-else-first, or-else-second}
 
+-- ---- the arms of `?`
+-- the value that was met, by what it is
+pub value-is : {A E : Type 0} (r : Result A E) (x y : A) → r ≡ Ok x → x ≡ y → r ≡ Ok y
+value-is r x y e q = e ∙ ap Ok q
+
 -- ---- a test
 pub test-passes : (a : Answer) → a.number ≡ 0 → Ok tt ≡ test_by a
 unfolding test_by

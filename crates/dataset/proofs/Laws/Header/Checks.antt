@@ -3,13 +3,14 @@
 use Rattle.std.proofs.Common.{if◌then◌else◌}
 use Prim.Native.Nat.{ℕ, ◌+◌, ◌-◌, ◌%◌, ◌<◌, ◌≤◌}
 use mathlib.Core.List.{List}
-use mathlib.Core.Path.{◌≡◌, sym, ◌∙◌}
+use mathlib.Core.Path.{◌≡◌, sym, ap, ◌∙◌}
 use mathlib.Core.Bool.{Bool, true, false, not, ◌&&◌, ◌||◌}
 use lib.Dec.{ltb, eqb}
 use native.Mathlib.Omega.{arith}
 use lib.ListN.{length}
 use borrow.Author.Tests.{ltb-false, lt-ltb, le-ltb, eq-eqb, ne_eqb}
-use Rattle.dataset.specs.Header.{ElementHeader, ItemHeader, outside, long_at, by_form, vr_on_at, value_by, item_by}
+use Rattle.answer.specs.declared.Answer.{Answer}
+use Rattle.dataset.specs.Header.{fault_at, ElementHeader, ItemHeader, outside, long_at, by_form, vr_on_at, value_by, item_by}
 use Rattle.dataset.specs.Bytes.{num16, num32, tag_at, vr_at}
 use Rattle.dataset.specs.Vr.{form_of}
 use Rattle.slices.proofs.Laws.Bools.{neither}
@@ -73,6 +74,15 @@ pub ruleset checks = (took, skip, if-true, if-false, not_t, not_f, and-t, and-f,
 
 pub ruleset results = (flag, lt_of, le_of, eq_of, ne_of)
 
+-- a refusal by what it is made of
+pub refuses : (r a : Answer) → r ≡ a → ElementHeader.refused r ≡ ElementHeader.refused a
+refuses r a e = ap ElementHeader.refused e
+
+pub refuses-item : (r a : Answer) → r ≡ a → ItemHeader.refused r ≡ ItemHeader.refused a
+refuses-item r a e = ap ItemHeader.refused e
+
+pub ruleset refusals = (refuses, refuses-item)
+
 -- ---- what follows the checks of a header is another function's; z is its result
 pub short-form : (d : List ℕ) (tag left stop at v len : ℕ) (f : Form) (z : ElementHeader) → v ≡ vr_at d at → f ≡ form_of v → f ≡ Short → len ≡ num16 d (at + 6)
     → z ≡ value_by tag v left stop at (at + 8) len → z ≡ vr_on_at d tag left stop at
@@ -84,10 +94,10 @@ pub long-form : (d : List ℕ) (tag left stop at v : ℕ) (f : Form) (z : Elemen
 unfolding vr_on_at by_form
 long-form d tag left stop at v f z e q s w = rw (← e, ← q, s) w
 
-pub no-form : (d : List ℕ) (tag left stop at v : ℕ) (f : Form) (z : ElementHeader) → v ≡ vr_at d at → f ≡ form_of v → f ≡ Neither
-    → z ≡ ElementHeader.refused 5 at → z ≡ vr_on_at d tag left stop at
+pub no-form : (d : List ℕ) (tag left stop at v : ℕ) (f : Form) (a : Answer) → v ≡ vr_at d at → f ≡ form_of v → f ≡ Neither
+    → a ≡ fault_at 5 at → ElementHeader.refused a ≡ vr_on_at d tag left stop at
 unfolding vr_on_at by_form
-no-form d tag left stop at v f z e q s w = rw (← e, ← q, s) w
+no-form d tag left stop at v f a e q s w = rw (← e, ← q, s, w)
 
 pub long-value : (d : List ℕ) (i tag v left stop at start len : ℕ) (z : ElementHeader) → len ≡ num32 d i
     → z ≡ value_by tag v left stop at start len → z ≡ value_by tag v left stop at start (num32 d i)

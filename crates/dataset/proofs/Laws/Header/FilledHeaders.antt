@@ -13,7 +13,7 @@ use lib.Dec.{ltb, eqb}
 use Rattle.dataset.specs.Bytes.{num16, num32, tag_at}
 use Rattle.slices.specs.Lists.{OfBytes}
 use Rattle.dataset.specs.Vr.{form_of, OB, SQ}
-use Rattle.dataset.specs.Header.{ElementHeader, ItemHeader, undefined, outside, ends_at, closed_by, bad_length, too_deep, undefined_by, defined_by, value_by, long_at, by_form, vr_on_at, element_at, item_by, item_at}
+use Rattle.dataset.specs.Header.{fault_at, ElementHeader, ItemHeader, undefined, outside, ends_at, closed_by, bad_length, too_deep, undefined_by, defined_by, value_by, long_at, by_form, vr_on_at, element_at, item_by, item_at}
 use Rattle.dataset.specs.Tags.{item_tag, item_delimitation_item, sequence_delimitation_item}
 use Rattle.dataset.specs.Order.{Tagged, Sized, ValueAt, NestAt, HeaderExtent, EndsIn}
 use Rattle.dataset.specs.declared.vr.Form.{Form}
@@ -85,7 +85,7 @@ module _ {A : Type 0} (bad : A) (end : ℕ → A) (rest : A) (d : List ℕ) (del
 pub element-ends : (d : List ℕ) (delimited : Bool) (left stop at least next : ℕ) → stop ≤ length d → EndsIn d item_delimitation_item delimited stop at next
     → ElementHeader.ends next ≡ element_at d delimited left stop at least
 unfolding element_at
-element-ends d delimited left stop at least next l h = ends (ElementHeader.refused 2 at) ElementHeader.ends _ d item_delimitation_item stop at l delimited next h
+element-ends d delimited left stop at least next l h = ends (ElementHeader.refused (fault_at 2 at)) ElementHeader.ends _ d item_delimitation_item stop at l delimited next h
 
 -- the checks up to the VR
 tag-passes : (d : List ℕ) (delimited : Bool) (left stop at least tag : ℕ) (z : ElementHeader) → OfBytes d → stop ≤ length d → at + 8 ≤ stop → Tagged d at tag
@@ -93,9 +93,9 @@ tag-passes : (d : List ℕ) (delimited : Bool) (left stop at least tag : ℕ) (z
 unfolding element_at
 tag-passes d delimited left stop at least tag z b l h t o e =
     let s = t.stands in
-    goes_on (ElementHeader.refused 2 at) ElementHeader.ends _ d item_delimitation_item stop at l delimited z h (no-delimiter d at b t.group)
-    (skip (eqb (num16 d at) 0xFFFE) (ElementHeader.refused 3 at) _ z (ne_eqb (num16 d at) 0xFFFE t.group)
-    (skip (ltb (tag_at d at) least) (ElementHeader.refused 4 at) _ z (le-ltb (tag_at d at) least (omega arith)) (rw (← s) e)))
+    goes_on (ElementHeader.refused (fault_at 2 at)) ElementHeader.ends _ d item_delimitation_item stop at l delimited z h (no-delimiter d at b t.group)
+    (skip (eqb (num16 d at) 0xFFFE) (ElementHeader.refused (fault_at 3 at)) _ z (ne_eqb (num16 d at) 0xFFFE t.group)
+    (skip (ltb (tag_at d at) least) (ElementHeader.refused (fault_at 4 at)) _ z (le-ltb (tag_at d at) least (omega arith)) (rw (← s) e)))
 
 -- the checks from the VR to the length
 size-passes : (f : Form) (d : List ℕ) (tag vr left stop at start n : ℕ) (z : ElementHeader) → start ≤ stop → Sized f d at start n
@@ -105,8 +105,8 @@ size-passes Short d tag vr left stop at start n z h s e = let a = s.0 in let b =
 size-passes Long d tag vr left stop at start n z h s e =
     let a = s.0 in
     let b = s.2 in
-    skip (ltb (stop - at) 12) (ElementHeader.refused 2 at) _ z (le-ltb (stop - at) 12 (omega arith))
-    (skip (not (eqb (num16 d (at + 6)) 0)) (ElementHeader.refused 6 at) _ z (not_f (eqb (num16 d (at + 6)) 0) (eq-eqb (num16 d (at + 6)) 0 s.1)) (rw (← a, b) e))
+    skip (ltb (stop - at) 12) (ElementHeader.refused (fault_at 2 at)) _ z (le-ltb (stop - at) 12 (omega arith))
+    (skip (not (eqb (num16 d (at + 6)) 0)) (ElementHeader.refused (fault_at 6 at)) _ z (not_f (eqb (num16 d (at + 6)) 0) (eq-eqb (num16 d (at + 6)) 0 s.1)) (rw (← a, b) e))
 size-passes Neither d tag vr left stop at start n z h s e = absurd s
 
 -- 2.11g
@@ -123,10 +123,10 @@ module _ (tag left stop at start : ℕ) where
   unfolding value_by defined_by too_deep
   value-by vr n end q v w i =
       let z = ElementHeader.value tag vr start end in
-      skip (bad_length vr n) (ElementHeader.refused 7 at) _ z (even-good vr n v)
-      (skip (eqb vr SQ && eqb left 0) (ElementHeader.refused 8 at) _ z (and-f (eqb vr SQ) (eqb left 0) (ne_eqb vr SQ q))
+      skip (bad_length vr n) (ElementHeader.refused (fault_at 7 at)) _ z (even-good vr n v)
+      (skip (eqb vr SQ && eqb left 0) (ElementHeader.refused (fault_at 8 at)) _ z (and-f (eqb vr SQ) (eqb left 0) (ne_eqb vr SQ q))
       (skip (eqb n undefined) _ _ z (even-defined n v).0
-      (skip (ltb (stop - start) n) (ElementHeader.refused 2 at) _ z (le-ltb (stop - start) n (omega arith))
+      (skip (ltb (stop - start) n) (ElementHeader.refused (fault_at 2 at)) _ z (le-ltb (stop - start) n (omega arith))
       (skip (eqb vr SQ) _ _ z (ne_eqb vr SQ q) (rw w)))))
 
   sequence-by : (n end : ℕ) (inner : Bool) → 0 < left → start ≤ stop → HeaderExtent n stop start end inner
@@ -135,24 +135,24 @@ module _ (tag left stop at start : ℕ) where
   sequence-by n end true o i h =
       let z = ElementHeader.sequence tag start end true in
       let e = h.1 in
-      skip (bad_length SQ n) (ElementHeader.refused 7 at) _ z (if-true (eqb n undefined) _ _ false (eq-eqb n undefined h.0) refl)
-      (skip (eqb left 0) (ElementHeader.refused 8 at) _ z (ne_eqb left 0 λ x. omega arith)
+      skip (bad_length SQ n) (ElementHeader.refused (fault_at 7 at)) _ z (if-true (eqb n undefined) _ _ false (eq-eqb n undefined h.0) refl)
+      (skip (eqb left 0) (ElementHeader.refused (fault_at 8 at)) _ z (ne_eqb left 0 λ x. omega arith)
       (took (eqb n undefined) _ _ z (eq-eqb n undefined h.0) (rw e)))
   sequence-by n end false o i h =
       let z = ElementHeader.sequence tag start end false in
       let e = h.1 in
       let u = h.2 in
-      skip (bad_length SQ n) (ElementHeader.refused 7 at) _ z (even-good SQ n h.0)
-      (skip (eqb left 0) (ElementHeader.refused 8 at) _ z (ne_eqb left 0 λ x. omega arith)
+      skip (bad_length SQ n) (ElementHeader.refused (fault_at 7 at)) _ z (even-good SQ n h.0)
+      (skip (eqb left 0) (ElementHeader.refused (fault_at 8 at)) _ z (ne_eqb left 0 λ x. omega arith)
       (skip (eqb n undefined) _ _ z (even-defined n h.0).0
-      (skip (ltb (stop - start) n) (ElementHeader.refused 2 at) _ z (le-ltb (stop - start) n (omega arith))
+      (skip (ltb (stop - start) n) (ElementHeader.refused (fault_at 2 at)) _ z (le-ltb (stop - start) n (omega arith))
       (rw e))))
 
   fragments-by : (n : ℕ) → n ≡ undefined → ElementHeader.fragments tag start ≡ value_by tag OB left stop at start n
   unfolding value_by undefined_by too_deep bad_length
   fragments-by n u =
       let z = ElementHeader.fragments tag start in
-      skip (bad_length OB n) (ElementHeader.refused 7 at) _ z (if-true (eqb n undefined) _ _ false (eq-eqb n undefined u) refl)
+      skip (bad_length OB n) (ElementHeader.refused (fault_at 7 at)) _ z (if-true (eqb n undefined) _ _ false (eq-eqb n undefined u) refl)
       (took (eqb n undefined) _ _ z (eq-eqb n undefined u) refl)
 
 -- ---- what an element that fills its extent is answered
@@ -188,7 +188,7 @@ module _ (d : List ℕ) (b : OfBytes d) (delimited : Bool) (left stop at least t
 pub items-end : (d : List ℕ) (in_sequence delimited : Bool) (stop at next : ℕ) → stop ≤ length d → EndsIn d sequence_delimitation_item delimited stop at next
     → ItemHeader.ends next ≡ item_at d in_sequence delimited stop at
 unfolding item_at
-items-end d in_sequence delimited stop at next l h = ends (ItemHeader.refused 2 at) ItemHeader.ends _ d sequence_delimitation_item stop at l delimited next h
+items-end d in_sequence delimited stop at next l h = ends (ItemHeader.refused (fault_at 2 at)) ItemHeader.ends _ d sequence_delimitation_item stop at l delimited next h
 
 item_by_lem : (in_sequence : Bool) (n stop at start end : ℕ) (inner : Bool) → (inner ≡ true → in_sequence ≡ true) → start ≤ stop → HeaderExtent n stop start end inner
     → ItemHeader.item start end inner ≡ item_by in_sequence stop at start n
@@ -201,8 +201,8 @@ item_by_lem in_sequence n stop at start end false q i h =
     let e = h.1 in
     let u = h.2 in
     skip (eqb n undefined && in_sequence) _ _ z (and-f (eqb n undefined) in_sequence (even-defined n h.0).0)
-    (skip (eqb (n % 2) 1) (ItemHeader.refused 7 at) _ z (even-defined n h.0).1
-    (skip (ltb (stop - start) n) (ItemHeader.refused 2 at) _ z (le-ltb (stop - start) n (omega arith)) (rw e)))
+    (skip (eqb (n % 2) 1) (ItemHeader.refused (fault_at 7 at)) _ z (even-defined n h.0).1
+    (skip (ltb (stop - start) n) (ItemHeader.refused (fault_at 2 at)) _ z (le-ltb (stop - start) n (omega arith)) (rw e)))
 
 extent-starts : (n stop start end : ℕ) (inner : Bool) → HeaderExtent n stop start end inner → start ≤ end → start ≤ stop
 extent-starts n stop start end true h k = let e = h.1 in omega arith
@@ -215,6 +215,6 @@ unfolding item_at
 item-stands d in_sequence delimited stop at end inner l t k q h =
     let i = extent-starts (num32 d (at + 4)) stop (at + 8) end inner h k in
     let z = ItemHeader.item (at + 8) end inner in
-    goes_on (ItemHeader.refused 2 at) ItemHeader.ends _ d sequence_delimitation_item stop at l delimited z i (λ e. omega (arith, t, e))
-    (skip (not (eqb (tag_at d at) item_tag)) (ItemHeader.refused 3 at) _ z (not_f (eqb (tag_at d at) item_tag) (eq-eqb (tag_at d at) item_tag t))
+    goes_on (ItemHeader.refused (fault_at 2 at)) ItemHeader.ends _ d sequence_delimitation_item stop at l delimited z i (λ e. omega (arith, t, e))
+    (skip (not (eqb (tag_at d at) item_tag)) (ItemHeader.refused (fault_at 3 at)) _ z (not_f (eqb (tag_at d at) item_tag) (eq-eqb (tag_at d at) item_tag t))
     (item_by_lem in_sequence (num32 d (at + 4)) stop at (at + 8) end inner q i h))

@@ -9,6 +9,7 @@ use native.Mathlib.Omega.{arith}
 use borrow.Author.Tests.{ltb-false, eqb-true, eqb-false, not-true, not-false}
 use lib.ListN.{length}
 use lib.Dec.{ltb, eqb}
+use Rattle.answer.specs.declared.Answer.{Answer}
 use Rattle.dataset.specs.Bytes.{num16, num32, tag_at, vr_at}
 use Rattle.dataset.specs.Vr.{form_of, one_of, OB, SQ}
 use Rattle.dataset.specs.Header.{ElementHeader, ItemHeader, undefined, outside, bad_length, too_deep, undefined_by, defined_by, value_by, long_at, by_form, vr_on_at, item_by, ends_at, closed_by, element_at, item_at}
@@ -19,8 +20,8 @@ use Rattle.dataset.specs.declared.vr.Form.TheVariants.{Short, Long, Neither}
 use Rattle.slices.proofs.Laws.Bools.{choose, and_right, both, neither}
 
 -- a refusal that a header at `at` gives
-abbrev pub RefusedAt : (at number position : ℕ) → Type 0
-RefusedAt at number position = (2 ≤ number) × (number ≤ 8) × (position ≡ at)
+abbrev pub RefusedAt : (at : ℕ) → Answer → Type 0
+RefusedAt at a = (2 ≤ a.number) × (a.number ≤ 8) × (a.position ≡ at) × (a.length ≡ 0)
 
 -- the end of an extent: filled exactly, or ended by a delimiter
 pub record EndAt (d : List ℕ) (delimiter : ℕ) (delimited : Bool) (stop at next : ℕ) : Type 0 where
@@ -40,7 +41,7 @@ pub record ItemSpan (d : List ℕ) (stop at start end : ℕ) (delimited : Bool) 
   pub extent : HeaderExtent (num32 d (at + 4)) stop start end delimited
 
 abbrev pub ElementFacts : List ℕ → (delimited : Bool) (left stop at least : ℕ) → ElementHeader → Type 0
-ElementFacts d delimited left stop at least (ElementHeader.refused number position) = RefusedAt at number position
+ElementFacts d delimited left stop at least (ElementHeader.refused a) = RefusedAt at a
 ElementFacts d delimited left stop at least (ElementHeader.ends next) = EndAt d item_delimitation_item delimited stop at next
 ElementFacts d delimited left stop at least (ElementHeader.value tag vr start end) = (least ≤ tag) × ValueAt d stop at tag vr start end
 ElementFacts d delimited left stop at least (ElementHeader.sequence tag start end inner) =
@@ -50,7 +51,7 @@ ElementFacts d delimited left stop at least (ElementHeader.fragments tag start) 
     × (num32 d (at + 8) ≡ undefined)
 
 abbrev pub ItemFacts : List ℕ → (in_sequence delimited : Bool) (stop at : ℕ) → ItemHeader → Type 0
-ItemFacts d in_sequence delimited stop at (ItemHeader.refused number position) = RefusedAt at number position
+ItemFacts d in_sequence delimited stop at (ItemHeader.refused a) = RefusedAt at a
 ItemFacts d in_sequence delimited stop at (ItemHeader.ends next) = EndAt d sequence_delimitation_item delimited stop at next
 ItemFacts d in_sequence delimited stop at (ItemHeader.item start end inner) = ItemSpan d stop at start end inner × (in_sequence ≡ false → inner ≡ false)
 

@@ -1,5 +1,6 @@
 -- What one turn of `find`'s loop does, with the facts of the place as premises; and where what is found lies. Assumes nothing.
 use Rattle.std.proofs.Common.{if◌then◌else◌}
+use Rattle.std.specs.Prelude.{Result, Ok, Err}
 use Prim.Native.Nat.{ℕ, ◌+◌, ◌-◌, ◌≤◌, ◌<◌}
 use mathlib.Core.Path.{◌≡◌, refl, sym, ◌∙◌, subst}
 use mathlib.Core.Bool.{Bool, true, false}
@@ -10,11 +11,14 @@ use lib.ListN.{length}
 use lib.Dec.{eqb}
 use Rattle.answer.specs.declared.Answer.{Answer}
 use Rattle.answer.specs.Answer as answer
+use Rattle.answer.specs.Step.{test_by}
 use Rattle.dataset.specs.Tree.{Element, Elements, none, and, tag_of, span_of}
 use Rattle.dataset.proofs.Laws.Reading.Lies.{ElementsLie}
 use Rattle.dataset.specs.Reading.{Reading, fault, read, ◌>>=◌, ended, element, explicit, by_one, elements_at, one_at, size_limit, size_answer, levels, data_set, handed_on, one_case}
 use Rattle.dataset.specs.Lookup.{element_of, absent, present, found_of, found_in, found}
 use Rattle.dataset.specs.Inner.Outcomes.{or_next}
+use Rattle.dataset.specs.Extent.{whole_of}
+use Rattle.dataset.specs.declared.extent.Extent.{Extent}
 use Rattle.dataset.specs.declared.lookup.Found.{Found}
 use Rattle.dataset.specs.declared.reading.OneOutcome.{OneOutcome}
 use Rattle.dataset.specs.declared.reading.OneOutcome.TheVariants as one
@@ -88,30 +92,34 @@ before-front size tag f e (read es n) k g =
     (front f (present (span_of e).start (span_of e).end) refl (eqb (tag_of e) tag) (found_of size (element_of tag es)))
 
 -- ---- a turn of the loop: r is what the reader of one element answers
-module _ (d : List ℕ) (tag at least : ℕ) (r : OneOutcome) (e : one_case r ≡ handed_on (one_at explicit d false levels (length d) at least)) (f : Found) (i : FindLoop d tag at least f) where
-  so : length d ≤ size_limit → (x : Found) → with_before (length d) tag f (elements_at explicit d false levels (length d) at least) ≡ x → found d tag ≡ x
+module _ (d : List ℕ) (x : Extent) (w : x ≡ whole_of (length d)) (tag at least : ℕ) (r : Result OneOutcome Answer)
+    (c : one_case r ≡ handed_on (one_at explicit d x.delimited x.left x.stop at least)) (f : Found) (i : FindLoop d tag at least f) where
+  e : one_case r ≡ handed_on (one_at explicit d false levels (length d) at least)
+  e = rw w at c
+
+  so : length d ≤ size_limit → (y : Found) → with_before (length d) tag f (elements_at explicit d false levels (length d) at least) ≡ y → found d tag ≡ y
   unfolding found
-  so h x q = rw (data-set-is d h) (i.same ∙ q)
+  so h y q = rw (data-set-is d h) (i.same ∙ q)
 
-  pub find-refused : (g : Answer) (x : Found) → length d ≤ size_limit → r ≡ one.Refused g → x ≡ absent g (length d) → x ≡ found d tag
+  pub find-refused : (g : Answer) (y : Found) → length d ≤ size_limit → r ≡ Err g → y ≡ absent g (length d) → y ≡ found d tag
   unfolding with_before
-  find-refused g x h q w =
-      w ∙ sym (so h (absent g (length d)) (rw (elements-by d false levels (length d) at least i.inside (fault g) (is-one-fault (one_at explicit d false levels (length d) at least) g (answered d false levels (length d) at least r e i.inside ∙ q)))))
+  find-refused g y h q z =
+      z ∙ sym (so h (absent g (length d)) (rw (elements-by d false levels (length d) at least i.inside (fault g) (is-one-fault (one_at explicit d false levels (length d) at least) g (answered d false levels (length d) at least r e i.inside ∙ q)))))
 
-  pub find-end : (next : ℕ) → length d ≤ size_limit → r ≡ one.End next → f ≡ found d tag
+  pub find-end : (next : ℕ) → length d ≤ size_limit → r ≡ Ok (one.End next) → f ≡ found d tag
   unfolding by_one with_before element_of found_of
   find-end next h q =
       sym (so h f (rw (elements-by d false levels (length d) at least i.inside (read ended next) (is-one-end (one_at explicit d false levels (length d) at least) next (answered d false levels (length d) at least r e i.inside ∙ q))) i.kept))
 
-  after : (x : Element) (next : ℕ) → one_at explicit d false levels (length d) at least ≡ read (element x) next
+  after : (k : Element) (next : ℕ) → one_at explicit d false levels (length d) at least ≡ read (element k) next
       → with_before (length d) tag f (elements_at explicit d false levels (length d) at least)
-      ≡ with_before (length d) tag (or_next f (eqb (tag_of x) tag) (present (span_of x).start (span_of x).end)) (elements_at explicit d false levels (length d) next (tag_of x + 1))
+      ≡ with_before (length d) tag (or_next f (eqb (tag_of k) tag) (present (span_of k).start (span_of k).end)) (elements_at explicit d false levels (length d) next (tag_of k + 1))
   unfolding by_one
-  after x next q =
-      rw (elements-by d false levels (length d) at least i.inside (read (element x) next) q)
-      (before-front (length d) tag f x (elements_at explicit d false levels (length d) next (tag_of x + 1)) _ λ es n. refl)
+  after k next q =
+      rw (elements-by d false levels (length d) at least i.inside (read (element k) next) q)
+      (before-front (length d) tag f k (elements_at explicit d false levels (length d) next (tag_of k + 1)) _ λ es n. refl)
 
-  module _ (here vr start end next : ℕ) (q : r ≡ one.Element here vr start end next) where
+  module _ (here vr start end next : ℕ) (q : r ≡ Ok (one.Element here vr start end next)) where
     it : IsElement (one_at explicit d false levels (length d) at least) here vr start end next
     it = is-element (one_at explicit d false levels (length d) at least) here vr start end next (answered d false levels (length d) at least r e i.inside ∙ q)
 
@@ -125,17 +133,17 @@ module _ (d : List ℕ) (tag at least : ℕ) (r : OneOutcome) (e : one_case r �
     pub find-less : length d - next < length d - at
     find-less = let k = one-past d false levels (length d) at least r e i.inside here vr start end next q in omega (arith, k)
 
-    pub find-again : (x : Found) → x ≡ or_next f (eqb here tag) (present start end) → FindLoop d tag next (here + 1) x
-    find-again x w =
-        rw w record {
+    pub find-again : (y : Found) → y ≡ or_next f (eqb here tag) (present start end) → FindLoop d tag next (here + 1) y
+    find-again y z =
+        rw z record {
           inside = (one-past d false levels (length d) at least r e i.inside here vr start end next q).1;
           same = i.same ∙ (after it.what next it.is ∙ rw (it.tagged, it.starts, it.ends));
           kept = kept_next f (present start end) refl (eqb here tag) (nothing (length d)) i.kept;
         }
 
-pub find-over : (d : List ℕ) (tag : ℕ) (g : Answer) (x : Found) → g ≡ size_answer d → (g.number ≡ 0 → ⊥) → x ≡ absent g (length d) → x ≡ found d tag
+pub find-over : (d : List ℕ) (tag : ℕ) (r : Result (Unit {0}) Answer) (g : Answer) (x : Found) → r ≡ test_by (size_answer d) → r ≡ Err g → x ≡ absent g (length d) → x ≡ found d tag
 unfolding found found_in
-find-over d tag g x e h w = w ∙ rw (size-refused d g e h)
+find-over d tag r g x e q w = w ∙ rw (size-refused d r e g q)
 
 -- ---- what is found lies in the data set
 Inside : List ℕ → Found → Type 0

@@ -8,14 +8,14 @@ use Rattle.dataset.specs.Reading.{Headers, explicit}
 use Rattle.dataset.proofs.Laws.Header.HeaderFacts.{RefusedAt, ElementFacts, ItemFacts, value-start, element-facts, item-facts}
 
 abbrev pub ElementHeaderIn : (stop at : ℕ) → ElementHeader → Type 0
-ElementHeaderIn stop at (ElementHeader.refused number position) = RefusedAt at number position
+ElementHeaderIn stop at (ElementHeader.refused a) = RefusedAt at a
 ElementHeaderIn stop at (ElementHeader.ends next) = (at ≤ next) × (next ≤ stop)
 ElementHeaderIn stop at (ElementHeader.value tag vr start end) = (at < end) × (end ≤ stop)
 ElementHeaderIn stop at (ElementHeader.sequence tag start end inner) = (at < start) × (start ≤ end) × (end ≤ stop)
 ElementHeaderIn stop at (ElementHeader.fragments tag start) = (at < start) × (start ≤ stop)
 
 abbrev pub ItemHeaderIn : (stop at : ℕ) → ItemHeader → Type 0
-ItemHeaderIn stop at (ItemHeader.refused number position) = RefusedAt at number position
+ItemHeaderIn stop at (ItemHeader.refused a) = RefusedAt at a
 ItemHeaderIn stop at (ItemHeader.ends next) = (at ≤ next) × (next ≤ stop)
 ItemHeaderIn stop at (ItemHeader.item start end inner) = (at < start) × (start ≤ end) × (end ≤ stop)
 
@@ -30,7 +30,7 @@ explicit-bounded = record {
 }
   where
     from : (d : List ℕ) (delimited : Bool) (left stop at least : ℕ) (p : ElementHeader) → ElementFacts d delimited left stop at least p → ElementHeaderIn stop at p
-    from d delimited left stop at least (ElementHeader.refused number position) f = f
+    from d delimited left stop at least (ElementHeader.refused a) f = f
     from d delimited left stop at least (ElementHeader.ends next) f = (f.order, f.inside)
     from d delimited left stop at least (ElementHeader.value tag vr start end) f =
         omega (arith, value-start d stop at tag vr start end f.1, f.1.order, f.1.inside)
@@ -38,6 +38,6 @@ explicit-bounded = record {
     from d delimited left stop at least (ElementHeader.fragments tag start) f = omega (arith, f.1.starts, f.1.inside)
 
     from-item : (d : List ℕ) (in_sequence delimited : Bool) (stop at : ℕ) (p : ItemHeader) → ItemFacts d in_sequence delimited stop at p → ItemHeaderIn stop at p
-    from-item d in_sequence delimited stop at (ItemHeader.refused number position) f = f
+    from-item d in_sequence delimited stop at (ItemHeader.refused a) f = f
     from-item d in_sequence delimited stop at (ItemHeader.ends next) f = (f.order, f.inside)
     from-item d in_sequence delimited stop at (ItemHeader.item start end inner) f = omega (arith, f.0.starts, f.0.order, f.0.inside)

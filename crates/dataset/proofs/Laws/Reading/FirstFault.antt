@@ -62,7 +62,7 @@ module _ (till stop at : ℕ) where
       → ((i : ℕ) → at < i → i ≤ stop → Over till (parts i) → parts' i ≡ parts i)
       → Over till (by_fragment parts p) → by_fragment parts' p ≡ by_fragment parts p
   unfolding by_fragment
-  fragment-step parts parts' (ItemHeader.refused number position) h f s = refl
+  fragment-step parts parts' (ItemHeader.refused a) h f s = refl
   fragment-step parts parts' (ItemHeader.ends next) h f s = refl
   fragment-step parts parts' (ItemHeader.item start end inner) h f s = first-agrees till (parts end) (parts' end) _ (λ a n x. x) (f end (omega arith) h.2) s
 
@@ -71,7 +71,7 @@ module _ (till stop at : ℕ) where
       → ((i : ℕ) → at < i → i ≤ stop → Over till (parts i) → parts' i ≡ parts i)
       → Over till (by_header items parts at p) → by_header items' parts' at p ≡ by_header items parts at p
   unfolding by_header
-  header-step items items' parts parts' (ElementHeader.refused number position) h f g s = refl
+  header-step items items' parts parts' (ElementHeader.refused a) h f g s = refl
   header-step items items' parts parts' (ElementHeader.ends next) h f g s = refl
   header-step items items' parts parts' (ElementHeader.value tag vr start end) h f g s = refl
   header-step items items' parts parts' (ElementHeader.sequence tag start end inner) h f g s =
@@ -101,7 +101,7 @@ module _ (till stop at : ℕ) where
       → ((i : ℕ) → at < i → i ≤ stop → Within i stop (items i) × (Over till (items i) → items' i ≡ items i))
       → Over till (by_item elements items at p) → by_item elements' items' at p ≡ by_item elements items at p
   unfolding by_item
-  item-step elements elements' items items' (ItemHeader.refused number position) h f g s = refl
+  item-step elements elements' items items' (ItemHeader.refused a) h f g s = refl
   item-step elements elements' items items' (ItemHeader.ends next) h f g s = refl
   item-step elements elements' items items' (ItemHeader.item start end inner) h f g s =
       let k = f inner end start h.0 h.1 h.2 in

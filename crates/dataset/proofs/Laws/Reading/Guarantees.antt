@@ -56,7 +56,7 @@ module _ (d : List ℕ) (stop at : ℕ) where
   fragment-fills : (parts : ℕ → Reading (List Span)) (p : ItemHeader) → ItemFacts d false true stop at p
       → ((i : ℕ) → Holds (PartsAre d stop i) (parts i)) → Holds (PartsAre d stop at) (by_fragment parts p)
   unfolding by_fragment FragmentsFill
-  fragment-fills parts (ItemHeader.refused number position) h f = tt
+  fragment-fills parts (ItemHeader.refused a) h f = tt
   fragment-fills parts (ItemHeader.ends next) h f = h.ends
   fragment-fills parts (ItemHeader.item start end inner) h f =
       let k = h.0 in
@@ -68,7 +68,7 @@ module _ (d : List ℕ) (stop at : ℕ) where
       → ((inner : Bool) (end i : ℕ) → Holds (ItemsAre d inner left end i) (items inner end i))
       → ((i : ℕ) → Holds (PartsAre d stop i) (parts i)) → Holds (OneFills d delimited left stop at least) (by_header items parts at p)
   unfolding by_header ElementFills
-  header-fills delimited left least items parts (ElementHeader.refused number position) h f g = tt
+  header-fills delimited left least items parts (ElementHeader.refused a) h f g = tt
   header-fills delimited left least items parts (ElementHeader.ends next) h f g = h.ends
   header-fills delimited left least items parts (ElementHeader.value tag vr start end) h f g = (h.0, (refl, h.1, refl))
   header-fills delimited left least items parts (ElementHeader.sequence tag start end inner) h f g =
@@ -93,7 +93,7 @@ module _ (d : List ℕ) (stop at : ℕ) where
       → ((i : ℕ) → Holds (ItemsAre d delimited left stop i) (items i))
       → Holds (ItemsAre d delimited left stop at) (by_item elements items at p)
   unfolding by_item ItemsFill
-  item-fills delimited left elements items (ItemHeader.refused number position) h f g = tt
+  item-fills delimited left elements items (ItemHeader.refused a) h f g = tt
   item-fills delimited left elements items (ItemHeader.ends next) h f g = h.ends
   item-fills delimited left elements items (ItemHeader.item start end inner) h f g =
       let s = h.0.starts in

@@ -1,7 +1,7 @@
 -- The levels left: they fall from a sequence to its items, and a number above 16 counts as 16. Assumes nothing.
 use Rattle.std.proofs.Common.{if◌then◌else◌}
-use Prim.Native.Nat.{ℕ, zero, suc, ◌-◌, ◌≤◌, ◌<◌}
-use mathlib.Core.Path.{◌≡◌, refl}
+use Prim.Native.Nat.{ℕ, zero, suc, min, ◌-◌, ◌≤◌, ◌<◌}
+use mathlib.Core.Path.{◌≡◌, refl, ◌∙◌}
 use mathlib.Core.Bool.{Bool, true, false}
 use mathlib.Core.List.{List}
 use native.Mathlib.Omega.{arith}
@@ -19,17 +19,13 @@ use Rattle.dataset.proofs.Laws.Reading.Bounded.{explicit-bounded}
 use Rattle.dataset.proofs.Laws.Reading.Unfolding.{fragment-same, header-same}
 
 -- ---- what the code of `deeper` answers
-pub deeper-over : (left : ℕ) → levels < left → 15 ≡ deeper left
+pub deeper-is : (left least r : ℕ) → least ≡ min left levels → r ≡ least - 1 → r ≡ deeper left
 unfolding deeper
-deeper-over left h = rw (lt-ltb levels left h)
-
-pub deeper-least : (left : ℕ) → left ≡ 0 → 0 ≡ deeper left
-unfolding deeper
-deeper-least left h = rw h
-
-pub deeper-less : (left : ℕ) → left ≤ levels → left - 1 ≡ deeper left
-unfolding deeper
-deeper-less left h = rw (le-ltb levels left h)
+deeper-is left least r e q = q ∙ go (ltb levels left) refl
+  where
+    go : (b : Bool) → ltb levels left ≡ b → least - 1 ≡ (if b then levels else left) - 1
+    go true t = let k = ltb-true levels left t in omega arith
+    go false t = let k = ltb-false levels left t in omega arith
 
 pub deeper-falls : (left : ℕ) → 0 < left → deeper left < left
 unfolding deeper
@@ -78,7 +74,7 @@ module _ (left : ℕ) (h : levels ≤ left) where
       → ((inner : Bool) (end i : ℕ) → elements inner end i ≡ elements' inner end i) → ((i : ℕ) → items i ≡ items' i)
       → by_item elements items at p ≡ by_item elements' items' at p
   unfolding by_item
-  item-rest elements elements' items items' at (ItemHeader.refused number position) e g = refl
+  item-rest elements elements' items items' at (ItemHeader.refused a) e g = refl
   item-rest elements elements' items items' at (ItemHeader.ends next) e g = refl
   item-rest elements elements' items items' at (ItemHeader.item start end inner) e g =
       rw (e inner end start) (then-rest (elements' inner end start) items items' at g)

@@ -22,7 +22,7 @@ module _ (stop at : ℕ) where
   pub fragment-same : (parts parts' : ℕ → Reading (List Span)) (p : ItemHeader) → ItemHeaderIn stop at p
       → ((i : ℕ) → at < i → i ≤ stop → parts i ≡ parts' i) → by_fragment parts p ≡ by_fragment parts' p
   unfolding by_fragment
-  fragment-same parts parts' (ItemHeader.refused number position) h f = refl
+  fragment-same parts parts' (ItemHeader.refused a) h f = refl
   fragment-same parts parts' (ItemHeader.ends next) h f = refl
   fragment-same parts parts' (ItemHeader.item start end delimited) h f = rw (f end (omega arith) h.2)
 
@@ -31,7 +31,7 @@ module _ (stop at : ℕ) where
       → ((i : ℕ) → at < i → i ≤ stop → parts i ≡ parts' i)
       → by_header items parts at p ≡ by_header items' parts' at p
   unfolding by_header
-  header-same items items' parts parts' (ElementHeader.refused number position) h f g = refl
+  header-same items items' parts parts' (ElementHeader.refused a) h f g = refl
   header-same items items' parts parts' (ElementHeader.ends next) h f g = refl
   header-same items items' parts parts' (ElementHeader.value tag vr start end) h f g = refl
   header-same items items' parts parts' (ElementHeader.sequence tag start end delimited) h f g = rw (f delimited end start h.0 h.1 h.2)
@@ -50,7 +50,7 @@ module _ (stop at : ℕ) where
       → ((i : ℕ) → at < i → i ≤ stop → items i ≡ items' i)
       → by_item elements items at p ≡ by_item elements' items' at p
   unfolding by_item
-  item-same elements elements' items items' (ItemHeader.refused number position) h f g = refl
+  item-same elements elements' items items' (ItemHeader.refused a) h f g = refl
   item-same elements elements' items items' (ItemHeader.ends next) h f g = refl
   item-same elements elements' items items' (ItemHeader.item start end delimited) h f g =
       let e = f delimited end start h.0 h.1 h.2 in

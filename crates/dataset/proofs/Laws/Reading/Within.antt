@@ -6,8 +6,7 @@ use mathlib.Core.Bool.{Bool, true, false}
 use mathlib.Core.List.{List}
 use native.Mathlib.Omega.{arith}
 use Rattle.answer.specs.declared.Answer.{Answer}
-use Rattle.answer.proofs.Laws.Refusals.{position-kept}
-use Rattle.dataset.specs.Header.{fault_at, ElementHeader, ItemHeader}
+use Rattle.dataset.specs.Header.{ElementHeader, ItemHeader}
 use Rattle.dataset.specs.Tree.{Span, Elements, Items, tag_of}
 use Rattle.dataset.specs.Reading.{Reading, fault, read, ◌>>=◌, One, ended, element, Headers, by_header, by_one, by_item, by_fragment, fragments_by, elements_by, items_by, fragments_at, items_at, one_at, deeper}
 use Rattle.dataset.proofs.Laws.Header.HeaderFacts.{RefusedAt}
@@ -48,10 +47,8 @@ then_one lo hi lo' hi' (read a n) k l u w g = g a n w.0 w.1
 -- ---- one step, by what stands there
 module _ (stop at : ℕ) (z : at ≤ stop) where
   -- a refusal of a header in the extent lies in it
-  refuses : (number position : ℕ) → RefusedAt at number position → FaultIn at stop (fault_at number position)
-  refuses number position h =
-      let p = position-kept number position (omega (arith, h.0)) in
-      record { least = h.0; most = h.1; order = omega (arith, h.2, p); inside = omega (arith, h.2, p); nothing = refl }
+  refuses : (a : Answer) → RefusedAt at a → FaultIn at stop a
+  refuses a h = record { least = h.0; most = h.1; order = omega arith; inside = omega arith; nothing = h.3 }
 
   abbrev Parts : (ℕ → Reading (List Span)) → Type 0
   Parts parts = (i : ℕ) → at < i → i ≤ stop → Within i stop (parts i)
@@ -61,7 +58,7 @@ module _ (stop at : ℕ) (z : at ≤ stop) where
 
   fragment-within : (parts : ℕ → Reading (List Span)) (p : ItemHeader) → ItemHeaderIn stop at p → Parts parts → Within at stop (by_fragment parts p)
   unfolding by_fragment
-  fragment-within parts (ItemHeader.refused number position) h f = refuses number position h
+  fragment-within parts (ItemHeader.refused a) h f = refuses a h
   fragment-within parts (ItemHeader.ends next) h f = h
   fragment-within parts (ItemHeader.item start end delimited) h f =
       then-within end stop at stop (parts end) _ (omega arith) (omega arith) (f end (omega arith) h.2) λ a n l u. omega arith
@@ -69,7 +66,7 @@ module _ (stop at : ℕ) (z : at ≤ stop) where
   pub header-within : (items : Bool → ℕ → ℕ → Reading Items) (parts : ℕ → Reading (List Span)) (p : ElementHeader) → ElementHeaderIn stop at p
       → Inner items → Parts parts → OneIn at stop (by_header items parts at p)
   unfolding by_header
-  header-within items parts (ElementHeader.refused number position) h f g = refuses number position h
+  header-within items parts (ElementHeader.refused a) h f g = refuses a h
   header-within items parts (ElementHeader.ends next) h f g = h
   header-within items parts (ElementHeader.value tag vr start end) h f g = h
   header-within items parts (ElementHeader.sequence tag start end delimited) h f g =
@@ -88,7 +85,7 @@ module _ (stop at : ℕ) (z : at ≤ stop) where
   item-within : (elements : Bool → ℕ → ℕ → Reading Elements) (items : ℕ → Reading Items) (p : ItemHeader) → ItemHeaderIn stop at p
       → Inner elements → ((i : ℕ) → at < i → i ≤ stop → Within i stop (items i)) → Within at stop (by_item elements items at p)
   unfolding by_item
-  item-within elements items (ItemHeader.refused number position) h f g = refuses number position h
+  item-within elements items (ItemHeader.refused a) h f g = refuses a h
   item-within elements items (ItemHeader.ends next) h f g = h
   item-within elements items (ItemHeader.item start end delimited) h f g =
       then-within start end at stop (elements delimited end start) _ (omega arith) (omega arith) (f delimited end start h.0 h.1 h.2) λ a n l u.

@@ -1,5 +1,6 @@
 -- Where an element lies by what its reader hands on, what follows of where it lies, and what follows of what `seek` answers. Assumes nothing.
 use Rattle.std.proofs.Common.{if◌then◌else◌}
+use Rattle.std.specs.Prelude.{Result, Ok, Err}
 use Prim.Native.Nat.{ℕ, ◌-◌, ◌≤◌, ◌<◌}
 use mathlib.Core.Path.{◌≡◌, refl, sym, ap}
 use mathlib.Core.Bool.{Bool, true, false, true≢false}
@@ -26,7 +27,6 @@ use Rattle.dataset.specs.declared.extent.Extent.{Extent}
 use Rattle.dataset.specs.declared.seek.Place.{Place}
 use Rattle.dataset.specs.declared.seek.Place.TheVariants as place
 use Rattle.dataset.specs.declared.seek.Sought.{Sought}
-use Rattle.dataset.specs.declared.seek.Sought.TheVariants as sought
 
 -- ---- what is read from `at` on in an extent
 abbrev pub one_from : List ℕ → Extent → (at least : ℕ) → Reading One
@@ -79,7 +79,7 @@ module _ (d : List ℕ) (x : Extent) (at least : ℕ) (inside : x.stop ≤ lengt
       → by_header (λ inner. items_at explicit d inner x.left) (fragments_at explicit d x.left x.stop) at h ≡ read (element e) next
       → ElementPlaced d e (place_by x (vr_of e) (span_of e).start (span_of e).end next)
   unfolding by_header
-  by-header e next (ElementHeader.refused number position) f q = absurd (true≢false (cc))
+  by-header e next (ElementHeader.refused a) f q = absurd (true≢false (cc))
   by-header e next (ElementHeader.ends n) f q = absurd (true≢false (cc))
   by-header e next (ElementHeader.value tag vr start end) f q =
       let k : Element.value at tag vr (span start end) ≡ e = cc in
@@ -137,16 +137,16 @@ pub record IsSought (d : List ℕ) (tag tag' : ℕ) (o : Reading Elements) (p q 
   pub placed : Placed d (element_of tag what) p
   pub placed' : Placed d (element_of tag' what) q
 
-pub sought-past : (d : List ℕ) (tag tag' : ℕ) (o : Reading Elements) (s : Sought) (p q : Place) (next : ℕ) → SoughtIn d tag tag' o s → s ≡ sought.Past p q next
+pub sought-past : (d : List ℕ) (tag tag' : ℕ) (o : Reading Elements) (s : Result Sought Answer) (p q : Place) (next : ℕ) → SoughtIn d tag tag' o s → s ≡ Ok (record { first = p; second = q; next = next })
     → IsSought d tag tag' o p q next
 sought-past d tag tag' (fault f) s p q next h e = absurd (true≢false (cc))
 sought-past d tag tag' (read es n) s p q next h e =
-    let u = h.is in
-    let x : n ≡ next = cc in
-    let y : h.first ≡ p = cc in
-    let z : h.second ≡ q = cc in
+    let u : record { first = h.first; second = h.second; next = n } ≡ record { first = p; second = q; next = next } = cc in
+    let x : n ≡ next = ap (λ (t : Sought). t.next) u in
+    let y : h.first ≡ p = ap (λ (t : Sought). t.first) u in
+    let z : h.second ≡ q = ap (λ (t : Sought). t.second) u in
     record { what = es; is = rw x; placed = rw (← y) h.placed; placed' = rw (← z) h.placed' }
 
-pub sought-refused : (d : List ℕ) (tag tag' : ℕ) (o : Reading Elements) (s : Sought) (f : Answer) → SoughtIn d tag tag' o s → s ≡ sought.Refused f → o ≡ fault f
+pub sought-refused : (d : List ℕ) (tag tag' : ℕ) (o : Reading Elements) (s : Result Sought Answer) (f : Answer) → SoughtIn d tag tag' o s → s ≡ Err f → o ≡ fault f
 sought-refused d tag tag' (fault g) s f h e = let q : g ≡ f = cc in ap fault q
 sought-refused d tag tag' (read es n) s f h e = let u = h.is in absurd (true≢false (cc))

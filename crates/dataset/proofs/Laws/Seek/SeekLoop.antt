@@ -1,6 +1,7 @@
 -- What the arms of `or_here` give, what one turn of the loop of `seek_in` does, and what `seek` refuses, with the facts of the place as premises.
 -- Assumes nothing.
 use Rattle.std.proofs.Common.{if◌then◌else◌}
+use Rattle.std.specs.Prelude.{Result, Ok, Err}
 use Prim.Native.Nat.{ℕ, ◌+◌, ◌-◌, ◌≤◌, ◌<◌}
 use mathlib.Core.Path.{◌≡◌, refl, sym, ap, ◌∙◌}
 use mathlib.Core.Bool.{Bool, true, false, not, true≢false}
@@ -11,6 +12,7 @@ use native.Mathlib.Omega.{arith}
 use lib.Dec.{eqb}
 use borrow.Author.Tests.{eq-eqb, ne_eqb}
 use Rattle.answer.specs.declared.Answer.{Answer}
+use Rattle.answer.specs.Step.{test_by}
 use Rattle.dataset.specs.Tree.{Element, Elements, tag_of}
 use Rattle.dataset.specs.Reading.{Reading, fault, read, ◌>>=◌, One, ended, element, by_one, handed_on, one_case}
 use Rattle.dataset.specs.Lookup.{element_of}
@@ -26,7 +28,6 @@ use Rattle.dataset.specs.Inner.Place.{is_there, place_by, or_here}
 use Rattle.dataset.specs.declared.extent.Extent.{Extent}
 use Rattle.dataset.specs.declared.seek.Place.{Place}
 use Rattle.dataset.specs.declared.seek.Place.TheVariants as place
-use Rattle.dataset.specs.declared.seek.Sought.TheVariants as sought
 use Rattle.dataset.proofs.Laws.Seek.Places.{one_from, elements_from, placed_at, placed-there}
 
 -- ---- `or_here`
@@ -129,7 +130,7 @@ seen-fault tag (fault f) g e = let q : f ≡ g = cc in ap fault q
 seen-fault tag (read es n) g e = absurd (true≢false (cc))
 
 seen_read : (d : List ℕ) (tag tag' : ℕ) (f f' : Option Element) (o : Reading Elements) (n : ℕ) (p q : Place) → Placed d f p → Placed d f' q
-    → seen tag Opt.none o ≡ read f n → seen tag' Opt.none o ≡ read f' n → SoughtIn d tag tag' o (sought.Past p q n)
+    → seen tag Opt.none o ≡ read f n → seen tag' Opt.none o ≡ read f' n → SoughtIn d tag tag' o (Ok (record { first = p; second = q; next = n }))
 unfolding seen or_later
 seen_read d tag tag' f f' (fault g) n p q h k e e' = absurd (true≢false (cc))
 seen_read d tag tag' f f' (read es m) n p q h k e e' =
@@ -139,15 +140,15 @@ seen_read d tag tag' f f' (read es m) n p q h k e e' =
     record { first = p; second = q; is = rw y; placed = rw z h; placed' = rw z' k }
 
 -- ---- a turn of the loop: r is what the reader of one element answers
-module _ (d : List ℕ) (x : Extent) (at least : ℕ) (r : OneOutcome) (e : one_case r ≡ handed_on (one_from d x at least))
+module _ (d : List ℕ) (x : Extent) (at least : ℕ) (r : Result OneOutcome Answer) (e : one_case r ≡ handed_on (one_from d x at least))
     (tag tag' : ℕ) (p q : Place) (i : SeekLoop d x tag tag' at least p q) where
-  pub seek-refused : (f : Answer) → r ≡ one.Refused f → SoughtIn d tag tag' (elements_in d x) (sought.Refused f)
+  pub seek-refused : (f : Answer) → r ≡ Err f → SoughtIn d tag tag' (elements_in d x) (Err f)
   unfolding seen
   seek-refused f w =
       let k = left_is d x at least i.inside (fault f) (is-one-fault (one_from d x at least) f (answered d x.delimited x.left x.stop at least r e i.inside ∙ w)) in
       rw (seen-fault tag (elements_in d x) f (i.first.same ∙ rw k)) refl
 
-  pub seek-end : (next : ℕ) → r ≡ one.End next → SoughtIn d tag tag' (elements_in d x) (sought.Past p q next)
+  pub seek-end : (next : ℕ) → r ≡ Ok (one.End next) → SoughtIn d tag tag' (elements_in d x) (Ok (record { first = p; second = q; next = next }))
   unfolding by_one
   seek-end next w =
       let k = left_is d x at least i.inside (read ended next) (is-one-end (one_from d x at least) next (answered d x.delimited x.left x.stop at least r e i.inside ∙ w)) in
@@ -155,7 +156,7 @@ module _ (d : List ℕ) (x : Extent) (at least : ℕ) (r : OneOutcome) (e : one_
       (i.first.same ∙ rw k (seen_none tag i.first.found next))
       (i.second.same ∙ rw k (seen_none tag' i.second.found next))
 
-  module _ (here vr start end next : ℕ) (w : r ≡ one.Element here vr start end next) where
+  module _ (here vr start end next : ℕ) (w : r ≡ Ok (one.Element here vr start end next)) where
     it : IsElement (one_from d x at least) here vr start end next
     it = one_found d x.delimited x.left x.stop at least r e i.inside here vr start end next w
 
@@ -177,5 +178,5 @@ module _ (d : List ℕ) (x : Extent) (at least : ℕ) (r : OneOutcome) (e : one_
         }
 
 -- ---- an extent that does not lie inside the data is refused, before anything is read
-pub seek-outside : (d : List ℕ) (x : Extent) (f : Answer) (tag tag' : ℕ) → f ≡ outside_answer d x → (f.number ≡ 0 → ⊥) → SoughtIn d tag tag' (elements_in d x) (sought.Refused f)
-seek-outside d x f tag tag' e h = rw (outside-fault d x f e h) refl
+pub seek-outside : (d : List ℕ) (x : Extent) (r : Result (Unit {0}) Answer) (f : Answer) (tag tag' : ℕ) → r ≡ test_by (outside_answer d x) → r ≡ Err f → SoughtIn d tag tag' (elements_in d x) (Err f)
+seek-outside d x r f tag tag' e q = rw (outside-fault d x r e f q) refl

@@ -2,28 +2,21 @@
 use Rattle.std.proofs.Common.{List, length, ℕ, ◌+◌, ◌-◌, ◌<◌, ◌≡◌, ◌≤◌}
 use borrow.Author.Tests.{le-leb, lt-leb}
 use native.Mathlib.Omega.{arith}
-use mathlib.Core.Option.{some}
-use mathlib.Core.Option as Opt
+use Rattle.std.specs.Prelude.{Some, None}
 use Rattle.dataset.specs.Bytes.{tag_at, tag_in}
 use Rattle.dataset.proofs.bytes.tag_in.Goals as goal
+use Rattle.dataset.proofs.bytes.tag_in.Goals.{then-s-lt4-via-then-s-lt4, then-s-lt4-via-else-s-lt4+then-s-i}
 
-few : (s : List ℕ) (i : ℕ) → length s < 4 → Opt.none ≡ tag_in s i
+past : (s : List ℕ) (i : ℕ) → length s < i + 4 → None ≡ tag_in s i
 unfolding tag_in
-few s i h = rw (lt-leb (i + 4) (length s) (omega arith))
+past s i h = rw (lt-leb (i + 4) (length s) h)
 
-past : (s : List ℕ) (i : ℕ) → 4 ≤ length s → length s - 4 < i → Opt.none ≡ tag_in s i
-unfolding tag_in
-past s i l h = rw (lt-leb (i + 4) (length s) (omega arith))
-
-here : (s : List ℕ) (i tag : ℕ) → 4 ≤ length s → i ≤ length s - 4 → tag ≡ tag_at s i → some tag ≡ tag_in s i
+here : (s : List ℕ) (i tag : ℕ) → 4 ≤ length s → i ≤ length s - 4 → tag ≡ tag_at s i → Some tag ≡ tag_in s i
 unfolding tag_in
 here s i tag l h e = rw (le-leb (i + 4) (length s) (omega arith), e)
 
 pub returns-then-s-lt4 : goal.returns-then-s-lt4
-returns-then-s-lt4 c = search few
-
-pub returns-then-s-i : goal.returns-then-s-i
-returns-then-s-i c = search past
+returns-then-s-lt4 c = past _ _ (elim c.then-s-lt4.branch [ then-s-lt4-via-then-s-lt4 w ↦ let k = w.if-s-lt4 in omega (arith, k.true) | then-s-lt4-via-else-s-lt4+then-s-i w ↦ let k = w.if-s-lt4 in let l = w.if-s-i in omega (arith, k.false, l.true) ])
 
 pub returns : goal.returns
 returns c = search here

@@ -14,8 +14,8 @@ closed-word : (d : List ℕ) (delimiter : ℕ) (delimited : Bool) (at tag word :
 unfolding closed_by
 closed-word d delimiter delimited at tag word e q w = rw (not-false delimited e, ← q, ← w)
 
-pub returns-then-not-delimited : goal.returns-then-not-delimited
-returns-then-not-delimited c = search closed-not
+pub returns-then-not-x : goal.returns-then-not-x
+returns-then-not-x c = search closed-not
 
 pub returns : goal.returns
 returns c = search closed-word

@@ -6,32 +6,32 @@ use Rattle.dataset.proofs.header.item_header.Goals as goal
 
 pub returns-then-is_outside : goal.returns-then-is_outside
 unfolding item_at
-returns-then-is_outside c = search (checks.checks, checks.results, checks.handed) depth 20
+returns-then-is_outside c = search (checks.checks, checks.results, checks.handed, checks.refusals) depth 20 fits 20000
 
 pub returns-then-ends_at : goal.returns-then-ends_at
 unfolding item_at
-returns-then-ends_at c = search (checks.checks, checks.results, checks.handed) depth 20
+returns-then-ends_at c = search (checks.checks, checks.results, checks.handed, checks.refusals) depth 20 fits 20000
 
-pub overflow_sub-stop : goal.overflow_sub-stop
-overflow_sub-stop c = search (checks.within, rules)
+pub overflow_sub-x : goal.overflow_sub-x
+overflow_sub-x c = search (checks.within, rules)
 
-pub returns-then-stop-at-lt8 : goal.returns-then-stop-at-lt8
+pub returns-then-x-at-lt8 : goal.returns-then-x-at-lt8
 unfolding item_at
-returns-then-stop-at-lt8 c = search (checks.checks, checks.results, checks.handed) depth 20
+returns-then-x-at-lt8 c = search (checks.checks, checks.results, checks.handed, checks.refusals) depth 20 fits 20000
 
 pub closed_by-requires : goal.closed_by-requires
 closed_by-requires c = search (checks.within, rules)
 
 pub returns-then-closed_by : goal.returns-then-closed_by
 unfolding item_at
-returns-then-closed_by c = search (checks.checks, checks.results, checks.handed) depth 20
+returns-then-closed_by c = search (checks.checks, checks.results, checks.handed, checks.refusals) depth 20 fits 20000
 
 pub tag_at-requires : goal.tag_at-requires
 tag_at-requires c = search (checks.within, rules)
 
 pub returns-then-tag_at : goal.returns-then-tag_at
 unfolding item_at
-returns-then-tag_at c = search (checks.checks, checks.results, checks.handed) depth 20
+returns-then-tag_at c = search (checks.checks, checks.results, checks.handed, checks.refusals) depth 20 fits 20000
 
 pub number32-len-requires : goal.number32-len-requires
 number32-len-requires c = search checks.header-length
@@ -41,4 +41,4 @@ item_by-requires c = search (checks.within, rules)
 
 pub returns : goal.returns
 unfolding item_at
-returns c = search (checks.checks, checks.results, checks.handed) depth 20
+returns c = search (checks.checks, checks.results, checks.handed, checks.refusals) depth 20 fits 20000

@@ -5,20 +5,20 @@ use Rattle.dataset.proofs.header.value_by.Goals as goal
 
 pub returns-then-bad_length : goal.returns-then-bad_length
 unfolding value_by
-returns-then-bad_length c = search (checks.checks, checks.results)
+returns-then-bad_length c = search (checks.checks, checks.results, checks.refusals) fits 20000
 
 pub returns-then-too_deep : goal.returns-then-too_deep
 unfolding value_by
-returns-then-too_deep c = search (checks.checks, checks.results)
+returns-then-too_deep c = search (checks.checks, checks.results, checks.refusals) fits 20000
 
 pub returns-then-len-eq-UNDEFINED : goal.returns-then-len-eq-UNDEFINED
 unfolding value_by
-returns-then-len-eq-UNDEFINED c = search (checks.checks, checks.results)
+returns-then-len-eq-UNDEFINED c = search (checks.checks, checks.results, checks.refusals) fits 20000
 
-pub returns-then-stop-start : goal.returns-then-stop-start
+pub returns-then-x-start : goal.returns-then-x-start
 unfolding value_by
-returns-then-stop-start c = search (checks.checks, checks.results)
+returns-then-x-start c = search (checks.checks, checks.results, checks.refusals) fits 20000
 
 pub returns : goal.returns
 unfolding value_by
-returns c = search (checks.checks, checks.results)
+returns c = search (checks.checks, checks.results, checks.refusals) fits 20000

@@ -6,8 +6,8 @@ use Rattle.dataset.specs.declared.lookup.Found.{Found}
 use native.Mathlib.Omega.{arith}
 use Rattle.dataset.proofs.lookup.lookup.Goals as goal
 
-pub overflow_add-end : goal.overflow_add-end
-overflow_add-end c = let h = steps.found_inside _ _ _ c.find-f.ensures in search rules
+pub overflow_add-result : goal.overflow_add-result
+overflow_add-result c = let h = steps.found_inside _ _ _ c.find-f.ensures in search rules
 
 pub slice_bounds-result-end : goal.slice_bounds-result-end
 slice_bounds-result-end c = let h = steps.found_inside _ _ _ c.find-f.ensures in search rules
@@ -21,7 +21,6 @@ returns c =
       block = refl;
       offset = omega (arith, ap (λ (f : Found). f.start) e);
       part = ap (λ (f : Found). between args.d.now f.start (f.start + f.length)) e;
-      numbered = ap (λ (f : Found). f.answer.number) e;
-      positioned = ap (λ (f : Found). f.answer.position) e;
+      answered = ap (λ (f : Found). f.answer) e;
       stands = ap (λ (f : Found). f.present) e;
     }

@@ -1,67 +1,93 @@
 use Rattle.std.proofs.Common.{rules, refl}
+use Rattle.std.proofs.lemmas.Result.{err_from_is_err_and}
+use Rattle.answer.proofs.Laws.Steps.{value-is}
 use Rattle.dataset.proofs.Laws.Reading.Loops as steps
 use Rattle.dataset.proofs.Laws.Reading.OneElement as one
 use Rattle.dataset.proofs.reading.+read_elements_read_items_read_one.Goals as goal
 
-pub read_elements-loop-fault-init : goal.read_elements-loop-fault-init
-read_elements-loop-fault-init t c = record { inside = search rules; same = refl }
+pub read_elements-loop-next-init : goal.read_elements-loop-next-init
+read_elements-loop-next-init t c = record { inside = search rules; same = refl }
 
-pub read_elements-returns-in-Refused : goal.read_elements-returns-in-Refused
-read_elements-returns-in-Refused t c = search steps.elements-refused
+pub read_elements-returns-in_err-next : goal.read_elements-returns-in_err-next
+read_elements-returns-in_err-next t c = 
+    let p = err_from_is_err_and c.from_residual.result c.from_residual.ensures.1 in
+    rw (p.1, p.2) (search (steps.elements-refused, c.in_err-next.was))
 
 pub read_elements-returns-in-End : goal.read_elements-returns-in-End
-read_elements-returns-in-End t c = search steps.elements-end
+read_elements-returns-in-End t c = let q = value-is _ _ _ c.in_ok-next.was c.in-End.is in search steps.elements-end
 
-pub read_elements-loop-fault-smaller : goal.read_elements-loop-fault-smaller
-read_elements-loop-fault-smaller t c = search steps.elements-less
+pub read_elements-loop-next-smaller : goal.read_elements-loop-next-smaller
+read_elements-loop-next-smaller t c = let q = value-is _ _ _ c.in_ok-next.was c.in-Element.is in search steps.elements-less
 
-pub read_elements-loop-fault-preserved : goal.read_elements-loop-fault-preserved
-read_elements-loop-fault-preserved t c = search steps.elements-again
+pub read_elements-loop-next-preserved : goal.read_elements-loop-next-preserved
+read_elements-loop-next-preserved t c = let q = value-is _ _ _ c.in_ok-next.was c.in-Element.is in search steps.elements-again
 
-pub read_items-loop-number-init : goal.read_items-loop-number-init
-read_items-loop-number-init t c = record { inside = search rules; same = refl }
+pub read_items-loop-next-init : goal.read_items-loop-next-init
+read_items-loop-next-init t c = record { inside = search rules; same = refl }
 
-pub read_items-returns-in-Refused : goal.read_items-returns-in-Refused
-read_items-returns-in-Refused t c = search steps.items_refused
+pub read_items-returns-in_err-next : goal.read_items-returns-in_err-next
+read_items-returns-in_err-next t c = 
+    let p = err_from_is_err_and c.from_residual.result c.from_residual.ensures.1 in
+    rw (p.1, p.2) (search (steps.items_refused, c.in_err-next.was))
 
 pub read_items-returns-in-End : goal.read_items-returns-in-End
-read_items-returns-in-End t c = search steps.items-end
+read_items-returns-in-End t c = let q = value-is _ _ _ c.in_ok-next.was c.in-End.is in search steps.items-end
 
 pub read_items-read_elements-requires : goal.read_items-read_elements-requires
-read_items-read_elements-requires t c = search (steps.elements-fall, steps.item-order, steps.item-inside, rules)
+read_items-read_elements-requires t c = let q = value-is _ _ _ c.in_ok-next.was c.in-Item.is in search (steps.elements-fall, steps.item-lies, rules)
 
-pub read_items-returns-in-Refused-read_elements : goal.read_items-returns-in-Refused-read_elements
-read_items-returns-in-Refused-read_elements t c = search steps.item_refused
+pub read_items-returns-in_err-at-in-Item : goal.read_items-returns-in_err-at-in-Item
+read_items-returns-in_err-at-in-Item t c = 
+    let q = value-is _ _ _ c.in_ok-next.was c.in-Item.is in
+    let w = c.in_err-at-in-Item.was in
+    let p = err_from_is_err_and c.from_residual-in_err-at-in-Item.result c.from_residual-in_err-at-in-Item.ensures.1 in
+    rw (p.1, p.2) (search steps.item_refused)
 
-pub read_items-loop-number-smaller : goal.read_items-loop-number-smaller
-read_items-loop-number-smaller t c = search steps.item-less
+pub read_items-loop-next-smaller : goal.read_items-loop-next-smaller
+read_items-loop-next-smaller t c = let q = value-is _ _ _ c.in_ok-next.was c.in-Item.is in let w = c.in_ok-at-in-Item.was in search steps.item-less
 
-pub read_items-loop-number-preserved : goal.read_items-loop-number-preserved
-read_items-loop-number-preserved t c = search steps.item-again
+pub read_items-loop-next-preserved : goal.read_items-loop-next-preserved
+read_items-loop-next-preserved t c = let q = value-is _ _ _ c.in_ok-next.was c.in-Item.is in let w = c.in_ok-at-in-Item.was in search steps.item-again
 
-pub read_one-read_items-items-requires : goal.read_one-read_items-items-requires
-read_one-read_items-items-requires t c = search (one.sequence-level, one.sequence-order, one.sequence-inside, rules)
+pub read_one-returns-in_err-next : goal.read_one-returns-in_err-next
+read_one-returns-in_err-next t c = 
+    let p = err_from_is_err_and c.from_residual.result c.from_residual.ensures.1 in
+    rw (p.1, p.2) (search (one.one-refused, c.in_err-next.was))
+
+pub read_one-read_items-requires : goal.read_one-read_items-requires
+read_one-read_items-requires t c = let q = value-is _ _ _ c.in_ok-next.was c.in-Sequence.is in search (one.sequence-level, one.sequence-order, one.sequence-inside, rules)
+
+pub read_one-returns-in_err-next-in-Sequence : goal.read_one-returns-in_err-next-in-Sequence
+read_one-returns-in_err-next-in-Sequence t c = 
+    let q = value-is _ _ _ c.in_ok-next.was c.in-Sequence.is in
+    let w = c.in_err-next-in-Sequence.was in
+    let p = err_from_is_err_and c.from_residual-in_err-next-in-Sequence.result c.from_residual-in_err-next-in-Sequence.ensures.1 in
+    rw (p.1, p.2) (search one.sequence-refused)
 
 pub read_one-holding-requires : goal.read_one-holding-requires
-read_one-holding-requires t c = search one.sequence-past
+read_one-holding-requires t c = let q = value-is _ _ _ c.in_ok-next.was c.in-Sequence.is in let w = c.in_ok-next-in-Sequence.was in search one.sequence-past
 
-pub read_one-read_fragments-fragments-requires : goal.read_one-read_fragments-fragments-requires
-read_one-read_fragments-fragments-requires t c = search (one.parts-order, one.parts-inside)
+pub read_one-read_fragments-requires : goal.read_one-read_fragments-requires
+read_one-read_fragments-requires t c = let q = value-is _ _ _ c.in_ok-next.was c.in-Fragments.is in search (one.parts-order, one.parts-inside)
+
+pub read_one-returns-in_err-next-in-Fragments : goal.read_one-returns-in_err-next-in-Fragments
+read_one-returns-in_err-next-in-Fragments t c = 
+    let q = value-is _ _ _ c.in_ok-next.was c.in-Fragments.is in
+    let w = c.in_err-next-in-Fragments.was in
+    let p = err_from_is_err_and c.from_residual-in_err-next-in-Fragments.result c.from_residual-in_err-next-in-Fragments.ensures.1 in
+    rw (p.1, p.2) (search one.parts-refused)
 
 pub read_one-holding-requires-in-Fragments : goal.read_one-holding-requires-in-Fragments
-read_one-holding-requires-in-Fragments t c = search one.parts-past
-
-pub read_one-returns-in-Refused : goal.read_one-returns-in-Refused
-read_one-returns-in-Refused t c = search one.one-refused
+read_one-holding-requires-in-Fragments t c = let q = value-is _ _ _ c.in_ok-next.was c.in-Fragments.is in let w = c.in_ok-next-in-Fragments.was in search one.parts-past
 
 pub read_one-returns-in-End : goal.read_one-returns-in-End
-read_one-returns-in-End t c = search one.one_end
+read_one-returns-in-End t c = let q = value-is _ _ _ c.in_ok-next.was c.in-End.is in search one.one_end
 
 pub read_one-returns-in-Value : goal.read_one-returns-in-Value
-read_one-returns-in-Value t c = search one.one_value
+read_one-returns-in-Value t c = let q = value-is _ _ _ c.in_ok-next.was c.in-Value.is in search one.one_value
 
-pub read_one-returns-in-Sequence : goal.read_one-returns-in-Sequence
-read_one-returns-in-Sequence t c = search one.sequence-one
+pub read_one-returns-in_ok-next-in-Sequence : goal.read_one-returns-in_ok-next-in-Sequence
+read_one-returns-in_ok-next-in-Sequence t c = let q = value-is _ _ _ c.in_ok-next.was c.in-Sequence.is in let w = c.in_ok-next-in-Sequence.was in search one.sequence-one
 
-pub read_one-returns-in-Fragments : goal.read_one-returns-in-Fragments
-read_one-returns-in-Fragments t c = search one.parts-one
+pub read_one-returns-in_ok-next-in-Fragments : goal.read_one-returns-in_ok-next-in-Fragments
+read_one-returns-in_ok-next-in-Fragments t c = let q = value-is _ _ _ c.in_ok-next.was c.in-Fragments.is in let w = c.in_ok-next-in-Fragments.was in search one.parts-one

@@ -1,10 +1,13 @@
 -- `seek` meets its contract: each place by its law in SeekLoop. Assumes nothing.
+use Rattle.std.proofs.lemmas.Result.{err_from_is_err_and}
 use Rattle.dataset.proofs.Laws.Seek.SeekLoop as steps
 use Rattle.dataset.proofs.Laws.Extent.Outside.{inside-lies}
 use Rattle.dataset.proofs.seek.seek.Goals as goal
 
-pub returns-then-outside-ne0 : goal.returns-then-outside-ne0
-returns-then-outside-ne0 c = search steps.seek-outside
+pub returns-in_err-outside_answer : goal.returns-in_err-outside_answer
+returns-in_err-outside_answer c =
+    let p = err_from_is_err_and c.from_residual.result c.from_residual.ensures.1 in
+    rw (p.1, p.2) (search (steps.seek-outside, c.in_err-outside_answer.was))
 
 pub seek_in-requires : goal.seek_in-requires
-seek_in-requires c = search inside-lies
+seek_in-requires c = search (inside-lies, c.in_ok-outside_answer.was)

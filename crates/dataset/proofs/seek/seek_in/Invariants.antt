@@ -3,8 +3,8 @@ use Rattle.std.proofs.Common.{◌-◌}
 use Rattle.dataset.proofs.Laws.Seek.SeekLoop as steps
 use Rattle.dataset.proofs.seek.seek_in.Given as goal
 
-abbrev pub invariant-loop-fault : goal.invariant-loop-fault
-invariant-loop-fault l = steps.SeekLoop l.d l.x l.first l.second l.at l.least l.one l.other
+abbrev pub invariant-loop-next : goal.invariant-loop-next
+invariant-loop-next l = steps.SeekLoop l.d l.x l.first l.second l.at l.least l.one l.other
 
-abbrev pub decreases-loop-fault : goal.decreases-loop-fault
-decreases-loop-fault l = l.x.stop - l.at
+abbrev pub decreases-loop-next : goal.decreases-loop-next
+decreases-loop-next l = l.x.stop - l.at

@@ -1,0 +1,6 @@
+-- `deeper` meets its contract: by its law in Levels. Assumes nothing.
+use Rattle.dataset.proofs.Laws.Reading.Levels as steps
+use Rattle.dataset.proofs.reading.deeper.Goals as goal
+
+pub returns : goal.returns
+returns c = search steps.deeper-is

@@ -1,0 +1,12 @@
+-- `read_whole` meets its contract: by the laws on a whole data set. Assumes nothing.
+use Rattle.std.proofs.lemmas.Result.{err_from_is_err_and}
+use Rattle.dataset.proofs.Laws.Reading.Loops as steps
+use Rattle.dataset.proofs.reading.read_whole.Goals as goal
+
+pub returns-in_err-size_answer : goal.returns-in_err-size_answer
+returns-in_err-size_answer c =
+    let p = err_from_is_err_and c.from_residual.result c.from_residual.ensures.1 in
+    rw (p.1, p.2) (search (steps.read-over, c.in_err-size_answer.was))
+
+pub returns : goal.returns
+returns c = let q = c.in_ok-size_answer.was in let h = steps.size-passed _ _ c.size_answer.ensures _ q in search steps.read-within
