@@ -103,13 +103,7 @@ fn too_deep(vr: u16, left: u32) -> bool
 }
 
 // The checks of a length and a value that starts at `start`, in the element at x.from: 7, 8 and the last 2.
-fn value_by(
-    tag: u32,
-    vr: u16,
-    x: Extent,
-    start: usize,
-    len: usize,
-) -> Result<ElementHeader, Answer>
+fn value_by(tag: u32, vr: u16, x: Extent, start: usize, len: usize) -> Result<ElementHeader, Answer>
     requires { start ≤ x.stop }
     ensures { element_case result ≡ value_by tag vr x.left x.stop x.from start len }
 {

@@ -81,13 +81,15 @@ pub fn find(d: &[u8], tag: u32) -> Found
         match reading::read_one(d, Extent { from: at, ..x }, least) {
             Err(fault) => return absent_at_end(fault, size),
             Ok(OneOutcome::End(_)) => return before,
-            Ok(OneOutcome::Element {
-                tag: here,
-                start,
-                end,
-                next,
-                ..
-            }) => {
+            Ok(
+                OneOutcome::Element {
+                    tag: here,
+                    start,
+                    end,
+                    next,
+                    ..
+                },
+            ) => {
                 before = or_next(before, tag, here, start, end);
                 at = next;
                 least = here as u64 + 1;

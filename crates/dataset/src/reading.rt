@@ -48,7 +48,15 @@ fn read_fragments(d: &[u8], x: Extent) -> Result<usize, Answer>
 {
     let mut at = x.from;
     loop {
-        match header::item_header(d, false, Extent { delimited: true, from: at, ..x })? {
+        match header::item_header(
+            d,
+            false,
+            Extent {
+                delimited: true,
+                from: at,
+                ..x
+            },
+        )? {
             ItemHeader::End(next) => return Ok(next),
             ItemHeader::Item { end, .. } => at = end,
         }

@@ -6,7 +6,7 @@ use mathlib.Core.Bool.{Bool, true, false}
 use mathlib.Core.List.{List}
 use native.Mathlib.Omega.{arith}
 use lib.Dec.{ltb}
-use borrow.Author.Tests.{ltb-true, ltb-false, lt-ltb, le-ltb, ne_eqb}
+use borrow.Author.Tests.{ltb-true, ltb-false, ne_eqb}
 use Rattle.dataset.specs.Bytes.{tag_at, vr_at}
 use Rattle.dataset.specs.Vr.{form_of}
 use Rattle.dataset.specs.Header.{ItemHeader, too_deep, value_by, long_at, by_form, vr_on_at, element_at, item_at}

@@ -14,7 +14,7 @@ use Rattle.answer.specs.Answer as answer
 use Rattle.answer.specs.Step.{test_by}
 use Rattle.answer.proofs.Laws.Steps.{test-accepted, test-is, test-refused}
 use Rattle.dataset.specs.Header.{item_case, item_at}
-use Rattle.dataset.specs.Reading.{Reading, fault, read, ended, element, explicit, by_one, by_item, by_fragment, fragments_at, elements_at, items_at, one_at, size_limit, size_answer, unless_refused, levels, deeper, data_set, answer_of, handed_on, one_case}
+use Rattle.dataset.specs.Reading.{Reading, fault, read, ended, element, explicit, by_one, by_fragment, fragments_at, elements_at, one_at, size_limit, size_answer, unless_refused, levels, data_set, answer_of, handed_on, one_case}
 use Rattle.dataset.specs.Extent.{whole_of, elements_in, items_in, opened_item, opened_case}
 use Rattle.dataset.specs.Place.{Lies}
 use Rattle.dataset.specs.Inner.Outcomes.{outcome_of, one_outcome_of}
@@ -32,7 +32,7 @@ use Rattle.dataset.proofs.Laws.Reading.Levels.{deeper-falls}
 use Rattle.dataset.proofs.Laws.Extent.ItemsFrom as from
 use Rattle.dataset.proofs.Laws.Extent.ItemsFrom.{items_from}
 use Rattle.dataset.proofs.Laws.Reading.Unfolding.{elements-by, fragments-by}
-use Rattle.dataset.proofs.Laws.Reading.Outcomes.{last, then_next, is-fault, is_read, elements-next, handed-back, is-one-fault, is-one-end, IsElement, is-element}
+use Rattle.dataset.proofs.Laws.Reading.Outcomes.{last, then_next, is-fault, is_read, handed-back, is-one-fault, is-one-end, IsElement, is-element}
 
 -- ---- the loops' invariants: `at` lies in the extent, and what is read from `from` on is answered as what is read from `at` on
 pub record FragmentsLoop (d : List ℕ) (left stop from at : ℕ) : Type 0 where

@@ -1,10 +1,9 @@
 -- What each place of the reader of one element does, with the facts of the place as premises: `search` applies these laws where the code
 -- has the facts. Assumes nothing.
-use Rattle.std.proofs.Common.{if◌then◌else◌}
 use Rattle.std.specs.Prelude.{Result, Ok, Err}
 use Prim.Native.Nat.{ℕ, ◌-◌, ◌≤◌, ◌<◌}
-use mathlib.Core.Path.{◌≡◌, refl, sym, ap, ◌∙◌}
-use mathlib.Core.Bool.{Bool, true, false, true≢false}
+use mathlib.Core.Path.{◌≡◌, sym, ap, ◌∙◌}
+use mathlib.Core.Bool.{Bool, true, false}
 use mathlib.Core.List.{List}
 use native.Mathlib.Omega.{arith}
 use lib.ListN.{length}
@@ -12,7 +11,7 @@ use Rattle.answer.specs.declared.Answer.{Answer}
 use Rattle.dataset.specs.Vr.{OB, SQ}
 use Rattle.dataset.specs.Header.{element_case, element_at}
 use Rattle.dataset.specs.Header as spec
-use Rattle.dataset.specs.Reading.{Reading, fault, read, ◌>>=◌, One, explicit, by_header, fragments_at, items_at, one_at, handed_on, one_case}
+use Rattle.dataset.specs.Reading.{explicit, by_header, fragments_at, items_at, one_at, handed_on, one_case}
 use Rattle.dataset.specs.Inner.Outcomes.{outcome_of, one_outcome_of, holding_of}
 use Rattle.dataset.specs.declared.header.ElementHeader.{ElementHeader}
 use Rattle.dataset.specs.declared.header.ElementHeader.TheVariants as header

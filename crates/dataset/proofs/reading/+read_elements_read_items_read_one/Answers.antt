@@ -9,7 +9,7 @@ pub read_elements-loop-next-init : goal.read_elements-loop-next-init
 read_elements-loop-next-init t c = record { inside = search rules; same = refl }
 
 pub read_elements-returns-in_err-next : goal.read_elements-returns-in_err-next
-read_elements-returns-in_err-next t c = 
+read_elements-returns-in_err-next t c =
     let p = err_from_is_err_and c.from_residual.result c.from_residual.ensures.1 in
     rw (p.1, p.2) (search (steps.elements-refused, c.in_err-next.was))
 
@@ -26,7 +26,7 @@ pub read_items-loop-next-init : goal.read_items-loop-next-init
 read_items-loop-next-init t c = record { inside = search rules; same = refl }
 
 pub read_items-returns-in_err-next : goal.read_items-returns-in_err-next
-read_items-returns-in_err-next t c = 
+read_items-returns-in_err-next t c =
     let p = err_from_is_err_and c.from_residual.result c.from_residual.ensures.1 in
     rw (p.1, p.2) (search (steps.items_refused, c.in_err-next.was))
 
@@ -37,7 +37,7 @@ pub read_items-read_elements-requires : goal.read_items-read_elements-requires
 read_items-read_elements-requires t c = let q = value-is _ _ _ c.in_ok-next.was c.in-Item.is in search (steps.elements-fall, steps.item-lies, rules)
 
 pub read_items-returns-in_err-at-in-Item : goal.read_items-returns-in_err-at-in-Item
-read_items-returns-in_err-at-in-Item t c = 
+read_items-returns-in_err-at-in-Item t c =
     let q = value-is _ _ _ c.in_ok-next.was c.in-Item.is in
     let w = c.in_err-at-in-Item.was in
     let p = err_from_is_err_and c.from_residual-in_err-at-in-Item.result c.from_residual-in_err-at-in-Item.ensures.1 in
@@ -50,7 +50,7 @@ pub read_items-loop-next-preserved : goal.read_items-loop-next-preserved
 read_items-loop-next-preserved t c = let q = value-is _ _ _ c.in_ok-next.was c.in-Item.is in let w = c.in_ok-at-in-Item.was in search steps.item-again
 
 pub read_one-returns-in_err-next : goal.read_one-returns-in_err-next
-read_one-returns-in_err-next t c = 
+read_one-returns-in_err-next t c =
     let p = err_from_is_err_and c.from_residual.result c.from_residual.ensures.1 in
     rw (p.1, p.2) (search (one.one-refused, c.in_err-next.was))
 
@@ -58,7 +58,7 @@ pub read_one-read_items-requires : goal.read_one-read_items-requires
 read_one-read_items-requires t c = let q = value-is _ _ _ c.in_ok-next.was c.in-Sequence.is in search (one.sequence-level, one.sequence-order, one.sequence-inside, rules)
 
 pub read_one-returns-in_err-next-in-Sequence : goal.read_one-returns-in_err-next-in-Sequence
-read_one-returns-in_err-next-in-Sequence t c = 
+read_one-returns-in_err-next-in-Sequence t c =
     let q = value-is _ _ _ c.in_ok-next.was c.in-Sequence.is in
     let w = c.in_err-next-in-Sequence.was in
     let p = err_from_is_err_and c.from_residual-in_err-next-in-Sequence.result c.from_residual-in_err-next-in-Sequence.ensures.1 in
@@ -71,7 +71,7 @@ pub read_one-read_fragments-requires : goal.read_one-read_fragments-requires
 read_one-read_fragments-requires t c = let q = value-is _ _ _ c.in_ok-next.was c.in-Fragments.is in search (one.parts-order, one.parts-inside)
 
 pub read_one-returns-in_err-next-in-Fragments : goal.read_one-returns-in_err-next-in-Fragments
-read_one-returns-in_err-next-in-Fragments t c = 
+read_one-returns-in_err-next-in-Fragments t c =
     let q = value-is _ _ _ c.in_ok-next.was c.in-Fragments.is in
     let w = c.in_err-next-in-Fragments.was in
     let p = err_from_is_err_and c.from_residual-in_err-next-in-Fragments.result c.from_residual-in_err-next-in-Fragments.ensures.1 in
