@@ -7,7 +7,7 @@ use mathlib.Core.Bool.{Bool, true, false, true≢false}
 use lib.Dec.{eqb}
 use borrow.Author.Tests.{eqb-true, eqb-false, eq-eqb, ne_eqb}
 use Rattle.answer.specs.Answer.{accepted, ◌or_else◌}
-use Rattle.answer.specs.Step.{step_by, test_by}
+use Rattle.answer.specs.Step.{step_by, test_by, answer_by}
 use Rattle.answer.specs.declared.Answer.{Answer}
 use Rattle.answer.proofs.Laws.OrElse.{or-else-first, or-else-second}
 
@@ -90,3 +90,26 @@ test-behind a b r h e = e ∙ ap test_by (sym (or-else-second a b h))
 pub test-before : (f a b : Answer) → f ≡ a → (a.number ≡ 0 → ⊥) → Err f ≡ test_by (a or_else b)
 unfolding test_by
 test-before f a b e h = rw (or-else-first a b h, ne_eqb a.number 0 h, e)
+
+-- ---- the answer of a step. An answer of these rules that is accepted has position 0, and so has each chain that ends in one.
+abbrev pub IsWhole : Answer → Type 0
+IsWhole a = a.number ≡ 0 → a ≡ accepted a.length
+
+pub whole-accepted : (n : ℕ) → IsWhole (accepted n)
+whole-accepted n h = refl
+
+pub whole-behind : (a b : Answer) → IsWhole b → IsWhole (a or_else b)
+unfolding ◌or_else◌
+whole-behind a b w = go (eqb a.number 0) refl
+  where
+    go : (t : Bool) → eqb a.number 0 ≡ t → IsWhole (if t then b else a)
+    go true e = w
+    go false e = λ h. absurd (eqb-false a.number 0 e h)
+
+pub step-answer : (r : Result ℕ Answer) (a : Answer) → r ≡ step_by a → IsWhole a → answer_by r ≡ a
+unfolding step_by
+step-answer r a e w = go (eqb a.number 0) refl e
+  where
+    go : (t : Bool) → eqb a.number 0 ≡ t → r ≡ (if t then Ok a.length else Err a) → answer_by r ≡ a
+    go true h k = rw k (sym (w (eqb-true a.number 0 h)))
+    go false h k = rw k
