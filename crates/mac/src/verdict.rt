@@ -1,17 +1,20 @@
 // 9, the digest by its algorithm, and what a check says.
-ghost use Rattle.std.specs.Prelude.{◌≡◌, ◌≤◌, length};
+ghost use Rattle.std.specs.Prelude.{◌≡◌, ◌≤◌, length, IfOk};
 ghost use Rattle.std.proofs.Math.Option.{some};
+ghost use Rattle.answer.specs.Step.{test_by};
 ghost use Rattle.digest.specs.Message.{hashing};
 ghost use Rattle.mac.specs.Result.{verdict_code, compared};
 ghost use Rattle.mac.specs.Inner.Verdict.{CheckOf, digest_length, standard, length_answer, refused_check};
 
 use answer::Answer;
+use answer::refusal::Refusal;
 use digest::message;
 use digest::message::Hashed;
 use selection::select::Algorithm;
 
-// Whether the digest of the stream is the expected one; a check that is refused says neither of the two.
-#[derive(Clone, Copy)]
+// Whether the digest of the stream is the expected one; a check that is refused says neither of the two. C has a number for each of the
+// three, and `verdict_of` (specs/Result) says which.
+#[derive(Clone, Copy, Debug, PartialEq, Eq)]
 pub enum Verdict {
     Neither,
     Same,
@@ -19,17 +22,10 @@ pub enum Verdict {
 }
 
 // What a check gives back.
-#[derive(Clone, Copy)]
+#[derive(Clone, Copy, Debug, PartialEq, Eq)]
 pub struct Checked {
     pub answer: Answer,
     pub verdict: Verdict,
-}
-
-// The length of the expected digest; a call for the stream has none.
-#[derive(Clone, Copy)]
-pub(crate) enum ExpectedLength {
-    Absent,
-    Length(usize),
 }
 
 // How many bytes the digests of an algorithm have.
@@ -50,18 +46,17 @@ fn digest_by(algorithm: Algorithm, message: &[u8]) -> Hashed
     }
 }
 
-// 9, where an expected digest has not the length of the algorithm's; or else number 0.
-pub(crate) fn length_answer(algorithm: Algorithm, expected: ExpectedLength) -> Answer
-    ensures { result ≡ length_answer algorithm expected }
+// 9, where an expected digest has not the length of the algorithm's; a call for the stream expects none.
+pub(crate) fn length_answer(algorithm: Algorithm, expected: Option<usize>) -> Result<(), Answer>
+    ensures { result ≡ test_by (length_answer algorithm expected) }
 {
-    let ExpectedLength::Length(length) = expected else {
-        return Answer::accepted(0);
+    let Some(length) = expected else {
+        return Ok(());
     };
-    let right = digest_length(algorithm);
-    if length != right {
-        return Answer::refused(9, 0);
+    if length != digest_length(algorithm) {
+        return Err(Refusal::DigestLength.at(0));
     }
-    Answer::accepted(0)
+    Ok(())
 }
 
 // What a check says of the digest of its stream.
@@ -84,22 +79,24 @@ pub(crate) fn refused(answer: Answer) -> Checked
     }
 }
 
-// A check, by the answer of its stream, which stands in the work buffer where it is accepted.
+// A check, by the step that wrote its stream into the work buffer.
 pub(crate) fn check_of(
     algorithm: Algorithm,
-    answer: Answer,
+    written: Result<usize, Answer>,
     expected: &[u8],
     work: &[u8],
 ) -> Checked
-    requires { answer.number ≡ 0 → answer.length ≤ length work.now }
-    ensures { CheckOf algorithm answer expected.now work.now result }
+    requires { IfOk written (λ n. n ≤ length work.now) }
+    ensures { CheckOf algorithm written expected.now work.now result }
 {
-    if answer.number != 0 {
-        return refused(answer);
+    match written {
+        Err(answer) => refused(answer),
+        Ok(length) => {
+            let digest = digest_by(algorithm, &work[..length]).digest;
+            Checked {
+                answer: Answer::accepted(length),
+                verdict: verdict_of(&digest, expected),
+            }
+        }
     }
-    let length = answer.length;
-    let hashed = digest_by(algorithm, &work[..length]);
-    let digest = hashed.digest;
-    let verdict = verdict_of(&digest, expected);
-    Checked { answer, verdict }
 }

@@ -1,6 +1,7 @@
 -- For inner contracts; no part of what a reader has to believe: the check, by the answer of its stream.
 -- Assumes nothing.
-use Rattle.std.specs.Prelude.{ℕ, ◌≡◌, not, List, eqb, length, take, if◌then◌else◌}
+use Rattle.std.specs.Prelude as prelude
+use Rattle.std.specs.Prelude.{ℕ, ◌≡◌, not, List, Some, None, Ok, Err, eqb, length, take, if◌then◌else◌}
 use Rattle.std.proofs.Math.Option.{Option, some}
 use Rattle.std.proofs.Math.Option as Opt
 use Rattle.answer.specs.declared.Answer.{Answer}
@@ -10,11 +11,9 @@ use Rattle.digest.specs.Message as digest
 use Rattle.digest.specs.Sha256.{sha256}
 use Rattle.selection.specs.declared.select.Algorithm.{Algorithm}
 use Rattle.selection.specs.declared.select.Algorithm.TheVariants as algorithm
-use Rattle.mac.specs.Result.{neither, verdict_code, compared}
+use Rattle.mac.specs.Result.{verdict_code, compared}
 use Rattle.mac.specs.declared.verdict.Checked.{Checked}
 use Rattle.mac.specs.declared.verdict.Verdict.TheVariants as verdict
-use Rattle.mac.specs.declared.verdict.ExpectedLength.{ExpectedLength}
-use Rattle.mac.specs.declared.verdict.ExpectedLength.TheVariants as expected_length
 
 -- ---- the code's cases of an algorithm: the definition of its digest, and how many bytes that has
 
@@ -27,21 +26,21 @@ digest_length a = (standard a).size
 -- ---- a check
 
 -- an expected digest as it is handed down
-abbrev pub length_of : Option (List ℕ) → ExpectedLength
-length_of Opt.none = expected_length.Absent
-length_of (some e) = expected_length.Length (length e)
+abbrev pub length_of : Option (List ℕ) → prelude.Option ℕ
+length_of Opt.none = None
+length_of (some e) = Some (length e)
 
 -- 9, by what is handed down; or else number 0
-abbrev pub length_answer : Algorithm → ExpectedLength → Answer
-length_answer a expected_length.Absent = accepted 0
-length_answer a (expected_length.Length n) = if not (eqb n (digest_length a)) then refused 9 0 else accepted 0
+abbrev pub length_answer : Algorithm → prelude.Option ℕ → Answer
+length_answer a None = accepted 0
+length_answer a (Some n) = if not (eqb n (digest_length a)) then refused 9 0 else accepted 0
 
 -- one that is refused
 abbrev pub refused_check : Answer → Checked
 refused_check a = record { answer = a; verdict = verdict.Neither }
 
--- by the algorithm and the answer of its stream
-pub record CheckOf (of : Algorithm) (a : Answer) (expected work : List ℕ) (r : Checked) : Type 0 where
-  pub answers : r.answer ≡ a
-  pub refused : (a.number ≡ 0 → ⊥) → verdict_code r.verdict ≡ neither
-  pub says : a.number ≡ 0 → verdict_code r.verdict ≡ compared (some expected) (hashing (standard of) (take a.length work)).digest
+-- by the algorithm and the step that wrote its stream: its refusal; or what the digest of that many bytes of the work buffer says
+abbrev pub CheckOf : (of : Algorithm) → prelude.Result ℕ Answer → (expected work : List ℕ) → Checked → Type 0
+CheckOf of (Err a) expected work r = r ≡ refused_check a
+CheckOf of (Ok n) expected work r =
+    (r.answer ≡ accepted n) × (verdict_code r.verdict ≡ compared (some expected) (hashing (standard of) (take n work)).digest)

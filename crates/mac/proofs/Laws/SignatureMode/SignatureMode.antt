@@ -9,6 +9,10 @@ use native.Mathlib.Omega.{arith}
 use lib.ListN.{length}
 use Rattle.answer.specs.declared.Answer.{Answer}
 use Rattle.answer.specs.Answer.{accepted, refused, ◌or_else◌}
+use Rattle.answer.specs.Step.{step_by, test_by, answer_by}
+use Rattle.answer.proofs.Laws.Steps.{IsWhole, whole-accepted, whole-behind, step-answer, step-before, test-is, test-refused}
+use Rattle.std.specs.Prelude as prelude
+use Rattle.std.specs.Prelude.{Some, None, Ok, Err}
 use Rattle.answer.proofs.Laws.OrElse.{or-else-first, or-else-second, refused-first}
 use Rattle.slices.specs.Lists.{between}
 use Rattle.dataset.specs.Tree.{Elements}
@@ -22,28 +26,22 @@ use Rattle.selection.specs.Selection.{refusal, selected, select}
 use Rattle.selection.specs.Selection as mode
 use Rattle.selection.specs.Selected.{IsSelected, SelectionAs, SelectedBy, SelectedIn}
 use Rattle.selection.specs.declared.select.Selected.{Selected}
-use Rattle.selection.specs.declared.select.Selection.{Selection}
-use Rattle.selection.specs.declared.select.Selection.TheVariants as selection
-use Rattle.selection.specs.declared.select.Signature.{Signature}
 use Rattle.selection.proofs.Laws.Select.SelectionNumbers.{selected-number}
 use Rattle.stream.specs.TagList.{tags_in, list_answer}
 use Rattle.stream.specs.Listed.{tags_answer}
 use Rattle.stream.specs.Walk.{signed_stream, WrittenAs}
 use Rattle.stream.proofs.Laws.Listed.ListedAnswers.{tags-end}
 use Rattle.stream.specs.Walk as walk
-use Rattle.stream.specs.declared.walk.SignatureItem.{SignatureItem}
-use Rattle.stream.specs.declared.walk.SignatureItem.TheVariants as signature_item
 use Rattle.mac.specs.Result.{Result, Streamed, CheckedAs}
 use Rattle.mac.specs.SignatureMode.{stream_by, selection_answer, stream_in, answer_to15, measure, answer, result, stream_call, check_call}
 use Rattle.mac.specs.Inner.Verdict.{CheckOf, length_of, length_answer, refused_check}
-use Rattle.mac.specs.Inner.Calls.{CallAnswered, SelectionRefused, list_in, SelectionLies, SelectedWritten, SignatureSelected}
+use Rattle.mac.specs.Inner.Calls.{signature_call, CallAnswered, SelectionRefused, list_in, SelectionLies, SelectedWritten, SignatureSelected}
 use Rattle.mac.specs.declared.verdict.Checked.{Checked}
-use Rattle.mac.specs.declared.verdict.ExpectedLength.{ExpectedLength}
-use Rattle.mac.proofs.Laws.EitherCall.{call-refused, measured-is, call-written}
+use Rattle.mac.proofs.Laws.EitherCall.{call-whole, call-refused, measured-is, call-written}
 use Rattle.mac.proofs.Laws.Verdict.VerdictOfChecks.{AllFit, call-streamed, call-room, call-neither, call-checked}
 
 -- ---- what is selected, where the data set is read as p
-pub record Picked (uid : List ℕ) (which : Signature) (d : List ℕ) (x : Extent) (p : Reading Elements) (s : Selected) : Type 0 where
+pub record Picked (uid : List ℕ) (which : prelude.Option ℕ) (d : List ℕ) (x : Extent) (p : Reading Elements) (s : Selected) : Type 0 where
   pub elements : Elements
   pub next : ℕ
   pub reads : p ≡ read elements next
@@ -53,7 +51,7 @@ pub record Picked (uid : List ℕ) (which : Signature) (d : List ℕ) (x : Exten
   pub selects : select uid which elements d ≡ selected (list_in d s) algorithm signed item
   pub parts : IsSelected d x (list_in d s) algorithm signed item s
 
-module _ (uid : List ℕ) (which : Signature) (d : List ℕ) (r : Selection) (s : Selected) (e : r ≡ selection.Selected s) (x : Extent) where
+module _ (uid : List ℕ) (which : prelude.Option ℕ) (d : List ℕ) (r : prelude.Result Selected Answer) (s : Selected) (e : r ≡ Ok s) (x : Extent) where
   picked-by : (es : Elements) (n : ℕ) (m : mode.Selection) → select uid which es d ≡ m → SelectionAs d x m r → Picked uid which d x (read es n) s
   unfolding between
   picked-by es n (refusal k) q h = absurd (true≢false (cc))
@@ -77,16 +75,18 @@ module _ (uid : List ℕ) (which : Signature) (d : List ℕ) (r : Selection) (s 
   picked (read es n) h = picked-by es n (select uid which es d) refl h
 
 -- ---- `select_whole`
-module _ (uid : List ℕ) (which : Signature) (d : List ℕ) where
-  refused_as : (a f : Answer) → a ≡ f → (f.number ≡ 0 → ⊥) → f ≡ answer_to15 uid which d → SignatureSelected uid which d (selection.Refused a)
+module _ (uid : List ℕ) (which : prelude.Option ℕ) (d : List ℕ) where
+  refused_as : (a f : Answer) → a ≡ f → (f.number ≡ 0 → ⊥) → f ≡ answer_to15 uid which d → SignatureSelected uid which d (Err a)
   refused_as a f e n q = record { number = λ z. n (ap (λ (x : Answer). x.number) (sym e) ∙ z); answers = e ∙ q }
 
   -- 1
-  pub select-over : (a : Answer) → a ≡ size_answer d → (a.number ≡ 0 → ⊥) → SignatureSelected uid which d (selection.Refused a)
+  pub select-over : (v : prelude.Result (Unit {0}) Answer) (a : Answer) → v ≡ test_by (size_answer d) → v ≡ Err a → SignatureSelected uid which d (Err a)
   unfolding answer_to15
-  select-over a e h = refused_as a a refl h (refused-first a (size_answer d) _ e h)
+  select-over v a e q =
+      let n = test-refused v (size_answer d) e a q in
+      refused_as a a refl n (refused-first a (size_answer d) _ (test-is v (size_answer d) e a q) n)
 
-  module _ (h : length d ≤ size_limit) (x : Extent) (w : x ≡ whole_of (length d)) (r : Selection) (t : SelectedIn uid which d x x r) where
+  module _ (h : length d ≤ size_limit) (x : Extent) (w : x ≡ whole_of (length d)) (r : prelude.Result Selected Answer) (t : SelectedIn uid which d x x r) where
     whole : data_set d ≡ elements_in d x
     whole = rw w (data-set-is d h)
 
@@ -96,29 +96,29 @@ module _ (uid : List ℕ) (which : Signature) (d : List ℕ) where
     answer-by p q m e = or-else-second (size_answer d) _ (ap (λ (a : Answer). a.number) (size-within d h)) ∙ rw (q, e)
 
     -- ---- a refusal: 2 to 8, 18 to 23
-    module _ (f : Answer) (e : r ≡ selection.Refused f) where
-      by-selection : (es : Elements) (n : ℕ) → data_set d ≡ read es n → (m : mode.Selection) → select uid which es d ≡ m → SelectionAs d x m r → SignatureSelected uid which d (selection.Refused f)
+    module _ (f : Answer) (e : r ≡ Err f) where
+      by-selection : (es : Elements) (n : ℕ) → data_set d ≡ read es n → (m : mode.Selection) → select uid which es d ≡ m → SelectionAs d x m r → SignatureSelected uid which d (Err f)
       unfolding selection_answer
       by-selection es n q (refusal k) m s =
           refused_as f (refused k 0) (cc) (selected-number uid which es d k m) (sym (answer-by (read es n) q (refusal k) m ∙ or-else-second (accepted 0) _ refl))
       by-selection es n q (selected list a signed item) m s = let u = s.1 in absurd (true≢false (cc))
 
-      by-reading : (p : Reading Elements) → data_set d ≡ p → SelectedBy uid which d (tree_of p) x p r → SignatureSelected uid which d (selection.Refused f)
+      by-reading : (p : Reading Elements) → data_set d ≡ p → SelectedBy uid which d (tree_of p) x p r → SignatureSelected uid which d (Err f)
       by-reading (fault g) q s =
           let n : g.number ≡ 0 → ⊥ = λ z. omega (arith, (faults-inside d g q).least) in
           refused_as f g (cc) n (sym (answer-by (fault g) q _ refl ∙ or-else-first g _ n))
       by-reading (read es n) q s = by-selection es n q (select uid which es d) refl s
 
-      is-refused : SignatureSelected uid which d (selection.Refused f)
+      is-refused : SignatureSelected uid which d (Err f)
       is-refused = by-reading (elements_in d x) whole t
 
     -- ---- a list is selected
-    module _ (s : Selected) (e : r ≡ selection.Selected s) where
+    module _ (s : Selected) (e : r ≡ Ok s) where
       g : Picked uid which d x (elements_in d x) s
       g = picked uid which d r s e x (elements_in d x) t
 
-      abbrev item : SignatureItem
-      item = signature_item.Item s.item
+      abbrev item : prelude.Option Extent
+      item = Some s.item
 
       abbrev what : mode.Selection
       what = selected (list_in d s) g.algorithm g.signed g.item
@@ -145,39 +145,48 @@ module _ (uid : List ℕ) (which : Signature) (d : List ℕ) where
       lies : SelectionLies uid which d s
       lies = record { order = g.parts.order; inside = g.parts.inside; small = h; answers = answer-is; stream-is = stream-is }
 
-    by-case : (v : Selection) → r ≡ v → SignatureSelected uid which d v
-    by-case (selection.Refused f) e = is-refused f e
-    by-case (selection.Selected s) e = lies s e
+    by-case : (v : prelude.Result Selected Answer) → r ≡ v → SignatureSelected uid which d v
+    by-case (Err f) e = is-refused f e
+    by-case (Ok s) e = lies s e
 
     pub select-selected : SignatureSelected uid which d r
     select-selected = by-case r refl
 
 -- ---- measuring, and a call, by its expected digest; v is what is selected
 
-abbrev signature_call : (uid : List ℕ) (which : Signature) (d out : List ℕ) → Option (List ℕ) → Result
-signature_call uid which d out expected = result (record { uid = uid; which = which; set = d; room = length out; expected = expected })
+module _ (uid : List ℕ) (which : prelude.Option ℕ) (d : List ℕ) where
+  pub measure-whole : (r : prelude.Result ℕ Answer) (a : Answer) → r ≡ step_by (measure uid which d) → a ≡ answer_by r → a ≡ measure uid which d
+  unfolding measure
+  measure-whole r a e q = q ∙ step-answer r (measure uid which d) e (whole-behind (answer_to15 uid which d) _ (whole-accepted (length (stream_in uid which d))))
 
-module _ (uid : List ℕ) (which : Signature) (d : List ℕ) (v : Selection) (t : SignatureSelected uid which d v) where
-  module _ (a : Answer) (e : v ≡ selection.Refused a) where
+  whole-call : (out : List ℕ) (expected : Option (List ℕ)) → IsWhole (signature_call uid which d out expected).answer
+  unfolding answer
+  whole-call out expected = call-whole (answer_to15 uid which d) (stream_in uid which d) (length out) expected
+
+  pub signature-streamed : (out after : List ℕ) (r : prelude.Result ℕ Answer) (a : Answer) → CallAnswered (signature_call uid which d out) None limit out r after
+      → a ≡ answer_by r → AllFit d → Streamed (result (stream_call uid which d out)) d out a after
+  signature-streamed out after r a s e b = call-streamed (signature_call uid which d out) d out after r a e s (whole-call out Opt.none) b
+
+module _ (uid : List ℕ) (which : prelude.Option ℕ) (d : List ℕ) (v : prelude.Result Selected Answer) (t : SignatureSelected uid which d v) where
+  module _ (a : Answer) (e : v ≡ Err a) where
     is-refusal : SelectionRefused uid which d a
     is-refusal = rw e at t
 
-    pub refused-measured : a ≡ measure uid which d
+    pub refused-measured : Err a ≡ step_by (measure uid which d)
     unfolding measure
-    refused-measured = refused-first a (answer_to15 uid which d) _ is-refusal.answers is-refusal.number
+    refused-measured =
+        let k = is-refusal in
+        step-before a (answer_to15 uid which d) _ k.answers λ z. k.number (ap (λ (x : Answer). x.number) k.answers ∙ z)
 
-    refused-call : (given : ExpectedLength) (out : List ℕ) → CallAnswered (signature_call uid which d out) given limit out a out
+    pub refused-call : (given : prelude.Option ℕ) (out : List ℕ) → CallAnswered (signature_call uid which d out) given limit out (Err a) out
     unfolding answer
     refused-call given out = call-refused (answer_to15 uid which d) (stream_in uid which d) given limit out a is-refusal.answers is-refusal.number
 
-    pub refused-streamed : (out : List ℕ) → AllFit d → Streamed (result (stream_call uid which d out)) d out a out
-    refused-streamed out = call-streamed (signature_call uid which d out) d out out a (refused-call (length_of Opt.none) out)
-
     pub refused-checked : (expected work : List ℕ) (r : Checked) → r ≡ refused_check a → AllFit d → CheckedAs (result (check_call uid which d expected work)) d work r work
-    refused-checked expected work =
-        call-neither (signature_call uid which d work) d expected work work a (refused-call (length_of (some expected)) work) is-refusal.number
+    refused-checked expected work r q b =
+        call-neither (signature_call uid which d work) d expected work work (Err a) (refused-call (length_of (some expected)) work) refl b a r refl q
 
-  module _ (s : Selected) (e : v ≡ selection.Selected s) where
+  module _ (s : Selected) (e : v ≡ Ok s) where
     is-selected : SelectionLies uid which d s
     is-selected = rw e at t
 
@@ -187,33 +196,30 @@ module _ (uid : List ℕ) (which : Signature) (d : List ℕ) (v : Selection) (t 
     pub selected-inside : s.end ≤ length d
     selected-inside = is-selected.inside
 
-    pub selected-measured : (r : Answer) → r ≡ walk.measure (list_in d s) d s.signed (signature_item.Item s.item) → r ≡ measure uid which d
+    pub selected-measured : (r : prelude.Result ℕ Answer) → r ≡ step_by (walk.measure (list_in d s) d s.signed (Some s.item)) → r ≡ step_by (measure uid which d)
     unfolding measure
     selected-measured r q =
-        measured-is (answer_to15 uid which d) (stream_in uid which d) (list_in d s) d s.signed (signature_item.Item s.item) is-selected.answers is-selected.stream-is r q
+        measured-is (answer_to15 uid which d) (stream_in uid which d) (list_in d s) d s.signed (Some s.item) is-selected.answers is-selected.stream-is r q
 
     -- what is written, by the expected digest's length
-    module _ (given : ExpectedLength) (out : List ℕ) (a : Answer) (after : List ℕ) (w : SelectedWritten d s given out a after) where
-      selected-call : CallAnswered (signature_call uid which d out) given limit out a after
+    module _ (given : prelude.Option ℕ) (out : List ℕ) (r : prelude.Result ℕ Answer) (after : List ℕ) (w : SelectedWritten d s given out r after) where
+      pub selected-call : CallAnswered (signature_call uid which d out) given limit out r after
       unfolding answer
       selected-call =
           let k = is-selected in
-          call-written (answer_to15 uid which d) (stream_in uid which d) (list_in d s) d s.signed (signature_item.Item s.item) k.answers k.stream-is s.algorithm given limit out
-          (omega (arith, k.small)) _ refl a after w
+          call-written (answer_to15 uid which d) (stream_in uid which d) (list_in d s) d s.signed (Some s.item) k.answers k.stream-is s.algorithm given limit out
+          (omega (arith, k.small)) _ refl r after w
 
-      pub selected-room : length after ≡ length out → a.number ≡ 0 → a.length ≤ length after
-      selected-room = call-room (signature_call uid which d out) given out after a selected-call
+      pub selected-room : length after ≡ length out → (n : ℕ) → r ≡ Ok n → n ≤ length after
+      selected-room = call-room (signature_call uid which d out) d out after r given selected-call
 
-    pub selected-streamed : (out : List ℕ) (a : Answer) (after : List ℕ) → SelectedWritten d s (length_of Opt.none) out a after → AllFit d
-        → Streamed (result (stream_call uid which d out)) d out a after
-    selected-streamed out a after w = call-streamed (signature_call uid which d out) d out after a (selected-call (length_of Opt.none) out a after w)
-
-    pub selected-checked : (expected work : List ℕ) (a : Answer) (after : List ℕ) → SelectedWritten d s (length_of (some expected)) work a after
-        → (r : Checked) → CheckOf s.algorithm a expected after r → AllFit d → CheckedAs (result (check_call uid which d expected work)) d work r after
-    selected-checked expected work a after w r =
-        call-checked (signature_call uid which d work) d expected work after a (selected-call (length_of (some expected)) work a after w) s.algorithm r refl
+    pub selected-checked : (expected work : List ℕ) (w : prelude.Result ℕ Answer) (after : List ℕ) → SelectedWritten d s (length_of (some expected)) work w after
+        → (r : Checked) → CheckOf s.algorithm w expected after r → AllFit d → CheckedAs (result (check_call uid which d expected work)) d work r after
+    selected-checked expected work w after h r k b =
+        call-checked (signature_call uid which d work) d expected work after w (selected-call (length_of (some expected)) work w after h) refl b s.algorithm r
+        (whole-call uid which d work (some expected)) k
 
 -- ---- `write_selected`
-pub selected-written : (d : List ℕ) (s : Selected) (given : ExpectedLength) (later : Answer) → later ≡ length_answer s.algorithm given → (out : List ℕ) (r : Answer) (after : List ℕ)
-    → WrittenAs (list_in d s) d s.signed (signature_item.Item s.item) later out r after → SelectedWritten d s given out r after
+pub selected-written : (d : List ℕ) (s : Selected) (given : prelude.Option ℕ) (later : prelude.Result (Unit {0}) Answer) → later ≡ test_by (length_answer s.algorithm given)
+    → (out : List ℕ) (r : prelude.Result ℕ Answer) (after : List ℕ) → WrittenAs (list_in d s) d s.signed (Some s.item) later out r after → SelectedWritten d s given out r after
 selected-written d s given later q out r after w = rw q at w

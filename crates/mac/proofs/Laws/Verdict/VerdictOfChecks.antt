@@ -23,11 +23,13 @@ use Rattle.slices.specs.Lists.{same_bytes}
 use Rattle.selection.specs.declared.select.Algorithm.{Algorithm}
 use Rattle.selection.specs.declared.select.Algorithm.TheVariants as algorithm
 use Rattle.mac.specs.Inner.Verdict.{CheckOf, standard, digest_length, length_of, length_answer, refused_check}
-use Rattle.mac.specs.Inner.Calls.{CallAnswered}
+use Rattle.mac.specs.Inner.Calls.{Left, CallAnswered}
+use Rattle.answer.specs.Step.{test_by, answer_by}
+use Rattle.answer.proofs.Laws.Steps.{IsWhole, step-answer, step-is, step-accepted}
+use Rattle.std.specs.Prelude as prelude
+use Rattle.std.specs.Prelude.{Some, None, Ok, Err, is_none}
 use Rattle.mac.specs.declared.verdict.Verdict.{Verdict}
 use Rattle.mac.specs.declared.verdict.Checked.{Checked}
-use Rattle.mac.specs.declared.verdict.ExpectedLength.{ExpectedLength}
-use Rattle.mac.specs.declared.verdict.ExpectedLength.TheVariants as expected_length
 
 -- ---- the algorithm, of which there is one
 pub sha256-length : (of : Algorithm) → 32 ≡ digest_length of
@@ -37,16 +39,19 @@ pub sha256-digest : (of : Algorithm) (m : List ℕ) (g : Hashed) → g ≡ hashi
 sha256-digest algorithm.Sha256 m g q = q
 
 -- ---- 9
-module _ (of : Algorithm) (e : ExpectedLength) (a : Answer) where
-  pub length_none : e ≡ expected_length.Absent → a ≡ accepted 0 → a ≡ length_answer of e
-  length_none q k = k ∙ rw q
+module _ (of : Algorithm) (e : prelude.Option ℕ) where
+  pub length_none : (is_none e ≡ true) → Ok tt ≡ test_by (length_answer of e)
+  unfolding test_by
+  length_none q = ?
 
-  module _ (n right : ℕ) (q : e ≡ expected_length.Length n) (w : right ≡ digest_length of) where
-    pub length-wrong : (n ≡ right → ⊥) → a ≡ refused 9 0 → a ≡ length_answer of e
-    length-wrong h k = k ∙ rw (q, ← w, ne_eqb n right h)
+  module _ (n right : ℕ) (q : e ≡ Some n) (w : right ≡ digest_length of) where
+    pub length-wrong : (a : Answer) → (n ≡ right → ⊥) → a ≡ refused 9 0 → Err a ≡ test_by (length_answer of e)
+    unfolding test_by
+    length-wrong a h k = rw (q, ← w, ne_eqb n right h, k)
 
-    pub length-right : n ≡ right → a ≡ accepted 0 → a ≡ length_answer of e
-    length-right h k = k ∙ rw (q, ← w, eq-eqb n right h)
+    pub length-right : n ≡ right → Ok tt ≡ test_by (length_answer of e)
+    unfolding test_by
+    length-right h = rw (q, ← w, eq-eqb n right h)
 
 -- ---- the verdict
 module _ (digest expected : List ℕ) (b : Bool) (e : b ≡ same_bytes digest expected) where
@@ -61,16 +66,13 @@ hashes : (of : Algorithm) (m : List ℕ) → length m ≤ limit → (hashing (st
 unfolding hashing
 hashes algorithm.Sha256 m h = rw (le-leb (length m) limit h)
 
-module _ (of : Algorithm) (a : Answer) (expected work : List ℕ) where
-  pub check-refused : (r : Checked) → (a.number ≡ 0 → ⊥) → r ≡ refused_check a → CheckOf of a expected work r
-  check-refused r h e = record { answers = rw e; refused = λ k. rw e; says = λ z. absurd (h z) }
+module _ (of : Algorithm) (w : prelude.Result ℕ Answer) (expected work : List ℕ) where
+  pub check-refused : (a : Answer) (r : Checked) → w ≡ Err a → r ≡ refused_check a → CheckOf of w expected work r
+  check-refused a r q e = rw (q, e) refl
 
-  pub check-said : (g : Hashed) (v : Verdict) → a.number ≡ 0 → g ≡ hashing (standard of) (take a.length work) → verdict_code v ≡ compared (some expected) g.digest
-      → CheckOf of a expected work (record { answer = a; verdict = v })
-  check-said g v h q w = record { answers = refl; refused = λ k. absurd (k h); says = λ z. w ∙ ap (λ (x : Hashed). compared (some expected) x.digest) q }
-
-pub check-count : (a : Answer) (work : List ℕ) → (a.number ≡ 0 → a.length ≤ length work) → a.number ≡ 0 → a.length ≡ length (take a.length work)
-check-count a work h z = sym (length-take-le a.length work (h z))
+  pub check-said : (n : ℕ) (g : Hashed) (v : Verdict) (a : Answer) → w ≡ Ok n → g ≡ hashing (standard of) (take n work)
+      → verdict_code v ≡ compared (some expected) g.digest → a ≡ accepted n → CheckOf of w expected work (record { answer = a; verdict = v })
+  check-said n g v a q h u e = rw q (e, u ∙ ap (λ (x : Hashed). compared (some expected) x.digest) h)
 
 -- ---- a call in either mode
 
@@ -78,44 +80,60 @@ check-count a work h z = sym (length-take-le a.length work (h z))
 abbrev pub AllFit : List ℕ → Type 0
 AllFit d = (i : ℕ) → Fits w8 (get_or d i 0)
 
-pub call-streamed : (call : Option (List ℕ) → Result) (d out after : List ℕ) (a : Answer) → CallAnswered call (length_of Opt.none) limit out a after → AllFit d
-    → Streamed (call Opt.none) d out a after
-call-streamed call d out after a s b = let t = s.streamed Opt.none refl in record { answers = t.answers; output = t.output; bytes = λ i. (b i).fits }
+module _ (call : Option (List ℕ) → Result) (d out after : List ℕ) (r : prelude.Result ℕ Answer) where
+  pub call-streamed : (a : Answer) → a ≡ answer_by r → CallAnswered call (length_of Opt.none) limit out r after → IsWhole (call Opt.none).answer → AllFit d
+      → Streamed (call Opt.none) d out a after
+  call-streamed a e s w b =
+      let t = s.streamed Opt.none refl in
+      record { answers = e ∙ step-answer r (call Opt.none).answer t.answers w; output = t.output; bytes = λ i. (b i).fits }
 
-pub call-room : (call : Option (List ℕ) → Result) (given : ExpectedLength) (work after : List ℕ) (a : Answer) → CallAnswered call given limit work a after
-    → length after ≡ length work → a.number ≡ 0 → a.length ≤ length after
-call-room call given work after a s k h = omega (arith, s.room h)
+  pub call-room : (given : prelude.Option ℕ) → CallAnswered call given limit out r after → length after ≡ length out → (n : ℕ) → r ≡ Ok n → n ≤ length after
+  call-room given s k n q = omega (arith, s.room n q)
 
-module _ (call : Option (List ℕ) → Result) (d expected work after : List ℕ) (a : Answer) (s : CallAnswered call (length_of (some expected)) limit work a after) where
+module _ (call : Option (List ℕ) → Result) (d expected work after : List ℕ) (w : prelude.Result ℕ Answer)
+    (s : CallAnswered call (length_of (some expected)) limit work w after) (e : (call (some expected)).expected ≡ some expected) (b : AllFit d) where
+  abbrev c : Result
+  c = call (some expected)
+
+  t : Left c work w after
+  t = s.streamed (some expected) refl
+
   -- what is digested is the stream
-  digested : a.number ≡ 0 → take a.length after ≡ (call (some expected)).stream
+  digested : (n : ℕ) → w ≡ Ok n → take n after ≡ c.stream
   unfolding output_after left_in
-  digested h =
-      let t = s.streamed (some expected) refl in
-      let b = (call (some expected)).stream in
-      let y : after ≡ b ++ drop (length b) work = t.output ∙ rw (← t.answers, eq-eqb a.number 0 h) in
-      rw y (take_at b (drop (length b) work) a.length (sym (s.long (some expected) h)))
+  digested n q =
+      let z = (step-accepted w c.answer t.answers n q).0 in
+      let y : after ≡ c.stream ++ drop (length c.stream) work = t.output ∙ rw (eq-eqb c.answer.number 0 z) in
+      rw y (take_at c.stream (drop (length c.stream) work) n (sym (s.long (some expected) n q)))
 
-  module _ (r : Checked) (answers : r.answer ≡ a) (b : AllFit d) where
-    as_said : verdict_code r.verdict ≡ verdict_of (call (some expected)) → CheckedAs (call (some expected)) d work r after
-    as_said v = let t = s.streamed (some expected) refl in record { answers = answers ∙ t.answers; says = v; output = t.output; bytes = λ i. (b i).fits }
-
-    -- a refused one says neither
-    as-neither : (a.number ≡ 0 → ⊥) → verdict_code r.verdict ≡ neither → CheckedAs (call (some expected)) d work r after
-    unfolding verdict_of
-    as-neither h v = as_said (v ∙ rw (← (s.streamed (some expected) refl).answers, ne_eqb a.number 0 h))
-
-  pub call-neither : (a.number ≡ 0 → ⊥) → (r : Checked) → r ≡ refused_check a → AllFit d → CheckedAs (call (some expected)) d work r after
-  call-neither h r e b = as-neither r (rw e) b h (rw e)
-
-  pub call-checked : (of : Algorithm) (r : Checked) → (call (some expected)).expected ≡ some expected → CheckOf of a expected after r → AllFit d → CheckedAs (call (some expected)) d work r after
+  -- a refused one says neither
+  pub call-neither : (a : Answer) (r : Checked) → w ≡ Err a → r ≡ refused_check a → CheckedAs c d work r after
   unfolding verdict_of
-  call-checked of r e k b = go (eqb a.number 0) refl
+  call-neither a r q k =
+      let f = step-is w c.answer t.answers a q in
+      record {
+        answers = rw k f.0;
+        says = rw (k, ← f.0, ne_eqb a.number 0 λ z. f.1 (ap (λ (x : Answer). x.number) (sym f.0) ∙ z));
+        output = t.output;
+        bytes = λ i. (b i).fits;
+      }
+
+  call-said : (of : Algorithm) (n : ℕ) (r : Checked) → w ≡ Ok n → IsWhole c.answer → r.answer ≡ accepted n
+      → verdict_code r.verdict ≡ compared (some expected) (hashing (standard of) (take n after)).digest → CheckedAs c d work r after
+  unfolding verdict_of
+  call-said of n r q o k v =
+      let f = step-accepted w c.answer t.answers n q in
+      let m : length c.stream ≤ limit = omega (arith, s.long (some expected) n q, s.short n q) in
+      record {
+        answers = k ∙ rw f.1 (sym (o f.0));
+        says = v ∙ rw (digested n q, hashes of c.stream m, e, eq-eqb c.answer.number 0 f.0);
+        output = t.output;
+        bytes = λ i. (b i).fits;
+      }
+
+  pub call-checked : (of : Algorithm) (r : Checked) → IsWhole c.answer → CheckOf of w expected after r → CheckedAs c d work r after
+  call-checked of r o k = go w refl k
     where
-      go : (t : Bool) → eqb a.number 0 ≡ t → CheckedAs (call (some expected)) d work r after
-      go true q =
-          let z = eqb-true a.number 0 q in
-          let m = (call (some expected)).stream in
-          let n : length m ≤ limit = omega (arith, s.long (some expected) z, s.short z) in
-          as_said r k.answers b (k.says z ∙ rw (digested z, hashes of m n, e, ← (s.streamed (some expected) refl).answers, q))
-      go false q = let h = eqb-false a.number 0 q in as-neither r k.answers b h (k.refused h)
+      go : (v : prelude.Result ℕ Answer) → w ≡ v → CheckOf of v expected after r → CheckedAs c d work r after
+      go (Err a) q h = call-neither a r q h
+      go (Ok n) q h = call-said of n r q o h.0 h.1
