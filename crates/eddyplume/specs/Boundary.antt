@@ -2,7 +2,7 @@
 -- numbers. `StreamedTo` and `CheckedTo` are `Streamed` and `CheckedAs` of mac with the answer as three numbers; specs/Theorems.antt says of
 -- these, too, what is proved of those.
 -- Assumes nothing.
-use Rattle.std.specs.Prelude.{ℕ, ◌≡◌, Bool, true, false, List, [], ◌∷◌, eqb, get_or, if◌then◌else◌}
+use Rattle.std.specs.Prelude.{ℕ, ◌≡◌, Bool, true, false, List, [], ◌∷◌, Option, Some, None, eqb, get_or, if◌then◌else◌}
 use Rattle.answer.specs.declared.Answer.{Answer}
 use Rattle.slices.specs.Lists.{OfBytes}
 use Rattle.dataset.specs.declared.lookup.Found.{Found}
@@ -15,17 +15,15 @@ use Rattle.digest.specs.declared.running.Finished.{Finished}
 use Rattle.mac.specs.ListMode as list_mode
 use Rattle.mac.specs.Result.{Result, output_after, verdict_of}
 use Rattle.mac.specs.SignatureMode as signature_mode
-use Rattle.selection.specs.declared.select.Signature.{Signature}
-use Rattle.selection.specs.declared.select.Signature.TheVariants as signature
 
 -- uint64_t answer[3]: number, position, length
 abbrev pub answer_words : Answer → List ℕ
 answer_words a = a.number ∷ a.position ∷ a.length ∷ []
 
 -- bool numbered, uint64_t number: a signature number, or none (docs/DECISIONS.md, S8)
-abbrev pub which_of : (numbered : Bool) (number : ℕ) → Signature
-which_of true number = signature.Number number
-which_of false number = signature.Unnamed
+abbrev pub which_of : (numbered : Bool) (number : ℕ) → Option ℕ
+which_of true number = Some number
+which_of false number = None
 
 -- a call for the stream on the data set `set`: what is left in the output and in `answer`
 pub record StreamedTo (c : Result) (set out after answer : List ℕ) : Type 0 where

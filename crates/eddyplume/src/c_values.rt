@@ -1,11 +1,11 @@
-// The values that C gets: answers, verdicts, yes or no; and the signature that it names.
+// The values that C gets: answers, verdicts, yes or no; and the signature that it names. The types are other crates', so that none of these
+// can be a `From` of this one.
 ghost use Rattle.std.specs.Prelude.{◌≡◌};
 ghost use Rattle.mac.specs.Result.{verdict_code};
 ghost use Rattle.eddyplume.specs.Boundary.{answer_words, which_of, flag};
 
 use answer::Answer;
 use mac::verdict::Verdict;
-use selection::select::Signature;
 
 // Number, position, length.
 pub(crate) fn answer_words(a: Answer) -> [u64; 3]
@@ -26,21 +26,15 @@ pub(crate) fn verdict_code(v: Verdict) -> u8
 }
 
 // A signature number, or none.
-pub(crate) fn which_of(numbered: bool, number: u64) -> Signature
+pub(crate) fn which_of(numbered: bool, number: u64) -> Option<u64>
     ensures { result ≡ which_of numbered number }
 {
-    if numbered {
-        return Signature::Number(number);
-    }
-    Signature::Unnamed
+    numbered.then_some(number)
 }
 
 // 1 for yes, 0 for no.
 pub(crate) fn flag_of(yes: bool) -> u64
     ensures { result ≡ flag yes }
 {
-    if yes {
-        return 1;
-    }
-    0
+    u64::from(yes)
 }

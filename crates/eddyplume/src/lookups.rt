@@ -11,8 +11,7 @@ pub extern "C" fn eddyplume_lookup(d: &[u8], tag: u32, answer: &mut [u64; 3], pa
     ensures { LookedUp (found d.now tag) answer.new part.new }
 {
     let f = lookup::find(d, tag);
-    let a = f.answer;
-    *answer = c_values::answer_words(a);
+    *answer = c_values::answer_words(f.answer);
     let present = c_values::flag_of(f.present);
     *part = [present, f.start as u64, f.length as u64];
 }

@@ -41,10 +41,8 @@ pub extern "C" fn eddyplume_list_check(
         work.old work.new answer.new verdict.new }
 {
     let checked = list_mode::list_check(list, d, expected, work);
-    let a = checked.answer;
-    let v = checked.verdict;
-    *answer = c_values::answer_words(a);
-    *verdict = [c_values::verdict_code(v)];
+    *answer = c_values::answer_words(checked.answer);
+    *verdict = [c_values::verdict_code(checked.verdict)];
 }
 
 // The answer of `eddyplume_signature_stream` with room enough; nothing else is written.
@@ -98,8 +96,6 @@ pub extern "C" fn eddyplume_signature_check(
 {
     let which = c_values::which_of(numbered, number);
     let checked = signature_mode::signature_check(uid, which, d, expected, work);
-    let a = checked.answer;
-    let v = checked.verdict;
-    *answer = c_values::answer_words(a);
-    *verdict = [c_values::verdict_code(v)];
+    *answer = c_values::answer_words(checked.answer);
+    *verdict = [c_values::verdict_code(checked.verdict)];
 }

@@ -1,18 +1,18 @@
 -- Examples of signature mode: one small data set; one whose signature item has every kind of element that is left out; and from the first,
 -- each of 18 to 23 and 10. docs/RULES.md, 15, has none for this mode. Proved together in proofs/SignatureExamples.antt.
 -- Assumes nothing.
+use Rattle.std.specs.Prelude as prelude
+use Rattle.std.specs.Prelude.{Some, None}
 use Rattle.std.specs.Prelude.{ℕ, ◌+◌, ◌≡◌, List, [], ◌∷◌, ◌++◌, map, length, drop}
 use Rattle.answer.specs.declared.Answer.{Answer}
 use Rattle.answer.specs.Answer.{accepted, refused}
 use Rattle.mac.specs.Result.{output_after}
 use Rattle.mac.specs.SignatureMode.{stream_call, answer, result}
-use Rattle.selection.specs.declared.select.Signature.{Signature}
-use Rattle.selection.specs.declared.select.Signature.TheVariants as signature
 use Rattle.mac_theorems.specs.Examples.{untouched, A, modality, SQreserved, OBreserved, four_byte_length, item, sequence_delimiter_bytes}
 
 pub record SignatureExample : Type 0 where
   pub uid : List ℕ
-  pub which : Signature
+  pub which : prelude.Option ℕ
   pub set : List ℕ
   pub answers : Answer
   pub stream : List ℕ
@@ -138,29 +138,29 @@ crowded_stream = A ++ mac_id US 1 ++ written_sequence ++ SQreserved ++ item ++ e
 
 -- ---- the examples
 
-abbrev accepts : (which : Signature) (set : List ℕ) (length : ℕ) (stream : List ℕ) → SignatureExample
+abbrev accepts : (which : prelude.Option ℕ) (set : List ℕ) (length : ℕ) (stream : List ℕ) → SignatureExample
 accepts which set length stream = record { uid = explicit_vr_little_endian; which = which; set = set; answers = accepted length; stream = stream }
 
-abbrev refuses : (which : Signature) (uid set : List ℕ) (number : ℕ) → SignatureExample
+abbrev refuses : (which : prelude.Option ℕ) (uid set : List ℕ) (number : ℕ) → SignatureExample
 refuses which uid set number = record { uid = uid; which = which; set = set; answers = refused number 0; stream = [] }
 
 -- of the first signature, with the UID of the parameters
 abbrev refuses_first : (set : List ℕ) (number : ℕ) → SignatureExample
-refuses_first set number = refuses signature.Unnamed explicit_vr_little_endian set number
+refuses_first set number = refuses None explicit_vr_little_endian set number
 
 unfoldable pub examples : List SignatureExample
 examples =
     -- the listed element A, and the signature item's number: 10 + 10 bytes
-    accepts signature.Unnamed small_set 20 (A ++ mac_id US 1)
-    ∷ accepts (signature.Number 0) small_set 20 (A ++ mac_id US 1)
-    ∷ accepts signature.Unnamed crowded 50 crowded_stream
-    ∷ refuses (signature.Number 1) explicit_vr_little_endian small_set 18
+    accepts None small_set 20 (A ++ mac_id US 1)
+    ∷ accepts (Some 0) small_set 20 (A ++ mac_id US 1)
+    ∷ accepts None crowded 50 crowded_stream
+    ∷ refuses (Some 1) explicit_vr_little_endian small_set 18
     -- UL instead of US
     ∷ refuses_first (small good_parameters (mac_id UL 1)) 19
     -- another number
     ∷ refuses_first (small good_parameters (mac_id US 2)) 20
     -- the caller's UID with a NUL
-    ∷ refuses signature.Unnamed (explicit_vr_little_endian ++ 0x00 ∷ []) small_set 21
+    ∷ refuses None (explicit_vr_little_endian ++ 0x00 ∷ []) small_set 21
     -- SHA512
     ∷ refuses_first
     (small (parameters 64 (mac_id US 1 ++ transfer_syntax ++ algorithm 0x35 0x31 0x32 ++ data_elements_signed AT 4 modality)) (mac_id US 1)) 22

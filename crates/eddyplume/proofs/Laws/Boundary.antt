@@ -1,7 +1,7 @@
 -- What the exported functions write, from what the functions below them give back. Assumes nothing.
+use Rattle.std.specs.Prelude.{Option}
 use Prim.Native.Nat.{ℕ}
 use mathlib.Core.Path.{◌≡◌, refl, ap, ◌∙◌}
-use mathlib.Core.Bool.{Bool, true, false}
 use mathlib.Core.List.{List, [], ◌∷◌}
 use borrow.Author.Tests.{eq-eqb, ne_eqb}
 use Rattle.answer.specs.declared.Answer.{Answer}
@@ -14,16 +14,8 @@ use Rattle.digest.specs.declared.running.Fed.{Fed}
 use Rattle.digest.specs.declared.running.Finished.{Finished}
 use Rattle.mac.specs.Result.{Result, verdict_code, Streamed, CheckedAs}
 use Rattle.mac.specs.SignatureMode as mode
-use Rattle.selection.specs.declared.select.Signature.{Signature}
-use Rattle.selection.specs.declared.select.Signature.TheVariants as signature
 use Rattle.mac.specs.declared.verdict.Checked.{Checked}
-use Rattle.eddyplume.specs.Boundary.{answer_words, which_of, flag, StreamedTo, CheckedTo, LookedUp, digest_after, HashedTo, Holds, FedTo, FinishedTo}
-
-pub which-number : (numbered : Bool) (number : ℕ) → numbered ≡ true → signature.Number number ≡ which_of numbered number
-which-number numbered number h = rw h
-
-pub which-none : (numbered : Bool) (number : ℕ) → numbered ≡ false → signature.Unnamed ≡ which_of numbered number
-which-none numbered number h = rw h
+use Rattle.eddyplume.specs.Boundary.{answer_words, flag, StreamedTo, CheckedTo, LookedUp, digest_after, HashedTo, Holds, FedTo, FinishedTo}
 
 -- ---- the modes: the call is c, of the code's call b
 module _ (c b : Result) (e : b ≡ c) (set out after : List ℕ) (words : List ℕ) where
@@ -45,14 +37,14 @@ pub measured-to : (c b : Answer) → b ≡ c → (a : Answer) → a ≡ b → (w
 measured-to c b e a s words q = q ∙ ap answer_words (s ∙ e)
 
 -- in signature mode they differ in the choice of the signature
-pub same-measure : (uid : List ℕ) (w v : Signature) (d : List ℕ) → w ≡ v → mode.measure uid w d ≡ mode.measure uid v d
+pub same-measure : (uid : List ℕ) (w v : Option ℕ) (d : List ℕ) → w ≡ v → mode.measure uid w d ≡ mode.measure uid v d
 same-measure uid w v d e = rw e
 
-pub same-stream-call : (uid : List ℕ) (w v : Signature) (d out : List ℕ) → w ≡ v
+pub same-stream-call : (uid : List ℕ) (w v : Option ℕ) (d out : List ℕ) → w ≡ v
     → mode.result (mode.stream_call uid w d out) ≡ mode.result (mode.stream_call uid v d out)
 same-stream-call uid w v d out e = rw e
 
-pub same-check-call : (uid : List ℕ) (w v : Signature) (d expected work : List ℕ) → w ≡ v
+pub same-check-call : (uid : List ℕ) (w v : Option ℕ) (d expected work : List ℕ) → w ≡ v
     → mode.result (mode.check_call uid w d expected work) ≡ mode.result (mode.check_call uid v d expected work)
 same-check-call uid w v d expected work e = rw e
 

@@ -1,5 +1,7 @@
 -- The stream of signature mode starts with list mode's for the list that is selected, and its answers from 10 on are list mode's. Assumes
 -- nothing.
+use Rattle.std.specs.Prelude as prelude
+use Rattle.std.specs.Prelude.{Some, None}
 use Rattle.std.proofs.Common.{if◌then◌else◌}
 use Prim.Native.Nat.{ℕ, ◌≤◌}
 use mathlib.Core.Path.{◌≡◌, refl, sym, ap, ◌∙◌}
@@ -26,8 +28,6 @@ use Rattle.selection.specs.Selection.{Algorithm, signature_item, select_in, sele
 use Rattle.stream.specs.Own.{own}
 use Rattle.stream.specs.Walk.{signed_stream, answer_from16}
 use Rattle.mac.specs.SignatureMode.{stream_by, selection_answer, Call, selection, stream_in, stream, answer_to15, answer}
-use Rattle.selection.specs.declared.select.Signature.{Signature}
-use Rattle.selection.specs.declared.select.Signature.TheVariants as signature
 use Rattle.mac_theorems.specs.Theorems.{as_list, SignatureStream}
 use Rattle.mac_theorems.proofs.Laws.Answers.Acceptance.{IsRead, read_is, to15-read}
 use Rattle.mac_theorems.proofs.Laws.Signature.SelectedItem.{select-holds}
@@ -63,17 +63,17 @@ module _ (first all : List ℕ) (room : ℕ) (expected : Option (List ℕ)) (l :
 -- ---- a call that selects a list
 
 -- what is signed is the data set itself
-same-elements : (uid : List ℕ) (which : Signature) (whole : Elements) (d list : List ℕ) (algorithm : Algorithm) (es item : Elements)
+same-elements : (uid : List ℕ) (which : prelude.Option ℕ) (whole : Elements) (d list : List ℕ) (algorithm : Algorithm) (es item : Elements)
     → select uid which whole d ≡ selected list algorithm es item → es ≡ whole
 same-elements uid which whole d list algorithm es item e =
     select-holds (λ s. s ≡ selected list algorithm es item → es ≡ whole) (λ number l u q. absurd (true≢false (cc)))
     uid which whole d (λ other i listed named q. cc) e
 
 -- there is no signature item among no elements
-no_item : (which : Signature) → signature_item which Elements.none ≡ Opt.none
+no_item : (which : prelude.Option ℕ) → signature_item which Elements.none ≡ Opt.none
 unfolding signature_item element_of
-no_item signature.Unnamed = refl
-no_item (signature.Number number) = refl
+no_item None = refl
+no_item (Some number) = refl
 
 module _ (c : Call) (list : List ℕ) (algorithm : Algorithm) (item : Elements) (e : selection c ≡ selected list algorithm (tree c.set) item) where
   abbrev d : List ℕ

@@ -1,8 +1,0 @@
--- `flag_of` meets its contract. Assumes nothing.
-use Rattle.eddyplume.proofs.c_values.flag_of.Goals as goal
-
-pub returns-then-yes : goal.returns-then-yes
-returns-then-yes c = rw c.if-yes.true
-
-pub returns : goal.returns
-returns c = rw c.if-yes.false
