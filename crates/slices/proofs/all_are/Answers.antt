@@ -1,14 +1,15 @@
-use Rattle.slices.proofs.Laws.Comparing as steps
+use Rattle.std.proofs.Common.{rules, tests, refl, eqb, ◌∙◌, ◌&&◌}
+use Rattle.std.specs.List.{list_all}
+use Rattle.std.proofs.lemmas.Iterator.{YieldsList-from_slice}
+use Rattle.std.proofs.lemmas.Iterator.Search.{all_from_yields_List}
+use Rattle.std.proofs.lemmas.List.Recursion.{same_from_clauses}
+use Rattle.slices.specs.Lists.{all_are}
 use Rattle.slices.proofs.all_are.Goals as goal
 
-pub loop-i-init : goal.loop-i-init
-loop-i-init c = search steps.all_start
-
-pub returns-then-bytes-i : goal.returns-then-bytes-i
-returns-then-bytes-i c = search steps.all-other
-
-pub loop-i-preserved : goal.loop-i-preserved
-loop-i-preserved c = search steps.all-again
-
 pub returns : goal.returns
-returns c = search steps.all_end
+unfolding all_are
+returns c =
+    let byte = c.args.byte in
+    let xs = c.args.bytes.now in
+    all_from_yields_List (λ b. eqb b byte) _ _ c.all.result c.all.ensures.ran (YieldsList-from_slice xs cc) (λ x b q k. search (rules, tests))
+    ∙ same_from_clauses (list_all (λ b. eqb b byte)) (all_are byte) (λ x r. eqb x byte && r) refl (λ _ _. refl) (λ _ _. refl) xs
