@@ -2,31 +2,36 @@
 ghost use Rattle.std.specs.Prelude.{◌≡◌};
 ghost use Rattle.digest.specs.Sha256 as Sha256;
 ghost use Rattle.digest.specs.Message as Message;
+ghost use Rattle.digest.specs.Inner.Steps.{hashing_step};
 
 use crate::running::Running;
 use answer::Answer;
 
-#[derive(Clone, Copy)]
+// The answer, and beside it the digest: RULES 10.5 and D5 give a refusal its 32 zero bytes, which a `Result` would not have.
+#[derive(Clone, Copy, Debug, PartialEq, Eq)]
 pub struct Hashed {
     pub answer: Answer,
     pub digest: [u8; 32],
+}
+
+fn digest_of(message: &[u8]) -> Result<[u8; 32], Answer>
+    ensures { result ≡ hashing_step Sha256.sha256 message.now }
+{
+    Running::start().after(message)?.digest()
 }
 
 // The digest of a whole message. A refusal, 25, has 32 zero bytes.
 pub fn sha256(message: &[u8]) -> Hashed
     ensures { result ≡ Message.hashing Sha256.sha256 message.now }
 {
-    let fed = Running::start().feed(message);
-    let taken = fed.answer;
-    if taken.number != 0 {
-        return Hashed {
-            answer: taken,
+    match digest_of(message) {
+        Ok(digest) => Hashed {
+            answer: Answer::accepted(0),
+            digest,
+        },
+        Err(answer) => Hashed {
+            answer,
             digest: [0u8; 32],
-        };
+        },
     }
-    let whole = fed.running;
-    let done = whole.finish();
-    let answer = done.answer;
-    let digest = done.digest;
-    Hashed { answer, digest }
 }

@@ -1,20 +1,21 @@
 // The running digest, fed in parts and finished at any time.
-ghost use Rattle.std.specs.Prelude.{◌≡◌, ◌+◌, ◌≤◌, length, drop};
-ghost use Rattle.std.proofs.Math.Seq.{paste};
-ghost use Rattle.slices.specs.Lists.{all_are};
+ghost use Rattle.std.specs.Prelude.{◌≡◌, ◌+◌, ◌≤◌, ◌++◌, length};
 ghost use Rattle.digest.specs.Message.{rest};
 ghost use Rattle.digest.specs.Sha256 as Sha256;
 ghost use Rattle.digest.specs.Running as Spec;
 ghost use Rattle.digest.specs.Inner.Ready.{Ready};
+ghost use Rattle.digest.specs.Inner.Steps.{feeding_step, finishing_step};
 
 use crate::{bytes, padding, sha256};
 use answer::Answer;
+use answer::refusal::Refusal;
 
 // The most bytes of a message, 2^61 - 1: their bits are counted in 64 bits.
 pub const LIMIT: u64 = 2305843009213693951;
 
 // Eight words, the bytes that wait for the rest of their block, their count, and the total of all bytes.
-#[derive(Clone, Copy)]
+// C passes array and count, and may pass an impossible count (RULES 10.3, D1), so that they stand side by side.
+#[derive(Clone, Copy, Debug, PartialEq, Eq)]
 pub struct Running {
     pub words: [u32; 8],
     pub waiting: [u8; 64],
@@ -22,45 +23,33 @@ pub struct Running {
     pub total: u64,
 }
 
-// What feeding gives back: the answer, and the next running digest.
-#[derive(Clone, Copy)]
+// What feeding gives back: the answer, and the next running digest. A refusal returns the one received (RULES 10.4), which a `Result`
+// would not.
+#[derive(Clone, Copy, Debug, PartialEq, Eq)]
 pub struct Fed {
     pub answer: Answer,
     pub running: Running,
 }
 
-// What finishing gives back: the answer, the digest, and the running digest as it was.
-#[derive(Clone, Copy)]
+// What finishing gives back: the answer, the digest, and the running digest as it was. A refusal has 32 zero bytes (RULES 10.5), which a
+// `Result` would not.
+#[derive(Clone, Copy, Debug, PartialEq, Eq)]
 pub struct Finished {
     pub answer: Answer,
     pub digest: [u8; 32],
     pub running: Running,
 }
 
-// Whether every byte from an index on is 0.
-fn zero_from(bytes: [u8; 64], from: usize) -> bool
-    requires { from ≤ 64 }
-    ensures { result ≡ all_are 0 (drop from bytes) }
+// The waiting bytes with `bytes` after them, and zeros in the room that is left.
+fn filled(waiting: &[u8], bytes: &[u8]) -> [u8; 64]
+    requires { length waiting.now + length bytes.now ≤ 64 }
+    ensures { result ≡ Spec.zero_filled (waiting.now ++ bytes.now) }
 {
-    slices::all_are(&bytes[from..], 0)
-}
-
-// The waiting bytes with `bytes` after them.
-fn filled(waiting: [u8; 64], count: usize, bytes: &[u8]) -> [u8; 64]
-    requires { count + length bytes.now ≤ 64 }
-    ensures { result ≡ paste waiting count bytes.now (length bytes.now) }
-{
-    let mut w = waiting;
-    bytes::put(&mut w, count, bytes);
-    w
-}
-
-// The bytes past the whole blocks, as they wait.
-fn rest_waiting(bytes: &[u8]) -> [u8; 64]
-    ensures { result ≡ Spec.zero_filled (rest bytes.now) }
-{
-    let from = bytes.len() - bytes.len() % 64;
-    filled([0u8; 64], 0, &bytes[from..])
+    let mut all = [0u8; 64];
+    let count = waiting.len();
+    all[..count].copy_from_slice(waiting);
+    all[count..count + bytes.len()].copy_from_slice(bytes);
+    all
 }
 
 impl Running {
@@ -77,63 +66,54 @@ impl Running {
     }
 
     // Whether the count of waiting bytes is right, and the rest of the room for them is zero.
-    fn possible(self) -> bool
-        ensures { result ≡ Spec.possible self }
+    fn possible(&self) -> bool
+        ensures { result ≡ Spec.possible self.now }
     {
-        let count = self.count;
-        let waiting = self.waiting;
-        let total = self.total;
-        if count as u64 == total % 64 {
-            zero_from(waiting, count)
-        } else {
-            false
-        }
+        self.count as u64 == self.total % 64 && slices::all_are(&self.waiting[self.count..], 0)
     }
 
     // Whether it is possible and takes so many bytes more.
-    fn accepts(self, more: usize) -> bool
-        ensures { result ≡ Spec.accepts self more }
+    fn accepts(&self, more: usize) -> bool
+        ensures { result ≡ Spec.accepts self.now more }
     {
-        let n = more as u64;
-        if self.total <= LIMIT {
-            if n <= LIMIT - self.total {
-                return self.possible();
-            }
-        }
-        false
+        self.total <= LIMIT && more as u64 <= LIMIT - self.total && self.possible()
     }
 
     // The running digest after `bytes`.
-    fn fed(self, bytes: &[u8]) -> Self
-        requires { Ready self (length bytes.now) }
-        ensures { result ≡ Spec.fed Sha256.sha256 self bytes.now }
+    fn fed(&self, bytes: &[u8]) -> Self
+        requires { Ready self.now (length bytes.now) }
+        ensures { result ≡ Spec.fed Sha256.sha256 self.now bytes.now }
     {
-        let count = self.count;
-        let words = self.words;
-        let waiting = self.waiting;
-        let total = self.total + (bytes.len() as u64);
-        let room = 64 - count;
+        let waiting = &self.waiting[..self.count];
+        let total = self.total + bytes.len() as u64;
+        let room = 64 - self.count;
         if bytes.len() < room {
-            let more = filled(waiting, count, bytes);
-            let held = count + bytes.len();
-            return Running {
-                words,
-                waiting: more,
-                count: held,
+            return Self {
+                words: self.words,
+                waiting: filled(waiting, bytes),
+                count: self.count + bytes.len(),
                 total,
             };
         }
-        let full = filled(waiting, count, &bytes[..room]);
-        let first = sha256::after_blocks(words, &full);
-        let after = &bytes[room..];
-        let next = sha256::after_blocks(first, after);
-        let left = rest_waiting(after);
-        let over = after.len() % 64;
-        Running {
-            words: next,
-            waiting: left,
-            count: over,
+        let (first, after) = bytes.split_at(room);
+        let words = sha256::after_blocks(self.words, &filled(waiting, first));
+        let rest = &after[after.len() - after.len() % 64..];
+        Self {
+            words: sha256::after_blocks(words, after),
+            waiting: filled(rest, b""),
+            count: rest.len(),
             total,
+        }
+    }
+
+    // The running digest after `bytes`, or 25 where it does not take them.
+    pub(crate) fn after(&self, bytes: &[u8]) -> Result<Self, Answer>
+        ensures { result ≡ feeding_step Sha256.sha256 self.now bytes.now }
+    {
+        if self.accepts(bytes.len()) {
+            Ok(self.fed(bytes))
+        } else {
+            Err(Refusal::BadRunningDigest.at(0))
         }
     }
 
@@ -141,52 +121,55 @@ impl Running {
     pub fn feed(self, bytes: &[u8]) -> Fed
         ensures { result ≡ Spec.feeding Sha256.sha256 self bytes.now }
     {
-        if self.accepts(bytes.len()) {
-            let next = self.fed(bytes);
-            Fed {
+        match self.after(bytes) {
+            Ok(running) => Fed {
                 answer: Answer::accepted(0),
-                running: next,
-            }
-        } else {
-            Fed {
-                answer: Answer::refused(25, 0),
+                running,
+            },
+            Err(answer) => Fed {
+                answer,
                 running: self,
-            }
+            },
         }
     }
 
     // The digest of all bytes so far.
-    fn finished(self) -> [u8; 32]
-        requires { Ready self 0 }
-        ensures { result ≡ Spec.finished Sha256.sha256 self }
+    fn finished(&self) -> [u8; 32]
+        requires { Ready self.now 0 }
+        ensures { result ≡ Spec.finished Sha256.sha256 self.now }
     {
-        let count = self.count;
-        let words = self.words;
-        let waiting = self.waiting;
-        let bits = bytes::number_bytes(8 * self.total);
-        let n = padding::padded_size(count);
-        let end = padding::padded(waiting, count, bits, n);
-        let h = sha256::after_blocks(words, &end[..n]);
-        bytes::word_bytes(h)
+        let bits = (8 * self.total).to_be_bytes();
+        let n = padding::padded_size(self.count);
+        let end = padding::padded(&self.waiting[..self.count], bits, n);
+        bytes::word_bytes(&sha256::after_blocks(self.words, &end[..n]))
+    }
+
+    // The digest of all bytes so far, or 25 where it is not possible.
+    pub(crate) fn digest(&self) -> Result<[u8; 32], Answer>
+        ensures { result ≡ finishing_step Sha256.sha256 self.now }
+    {
+        if self.accepts(0) {
+            Ok(self.finished())
+        } else {
+            Err(Refusal::BadRunningDigest.at(0))
+        }
     }
 
     // The digest of all bytes so far. A refusal, 25, has 32 zero bytes. The running digest comes back as it was, and can be fed on.
     pub fn finish(self) -> Finished
         ensures { result ≡ Spec.finishing Sha256.sha256 self }
     {
-        if self.accepts(0) {
-            let digest = self.finished();
-            Finished {
+        match self.digest() {
+            Ok(digest) => Finished {
                 answer: Answer::accepted(0),
                 digest,
                 running: self,
-            }
-        } else {
-            Finished {
-                answer: Answer::refused(25, 0),
+            },
+            Err(answer) => Finished {
+                answer,
                 digest: [0u8; 32],
                 running: self,
-            }
+            },
         }
     }
 }

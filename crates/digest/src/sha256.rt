@@ -4,8 +4,7 @@ ghost use Rattle.slices.specs.Lists.{tabulate};
 ghost use Rattle.digest.specs.Message.{after_blocks};
 ghost use Rattle.digest.specs.Sha256 as Spec;
 
-use crate::{bytes, words};
-use std::num::wrapping_add_u32;
+use crate::words;
 
 // 4.2.2: the constants of the rounds.
 const K: [u32; 64] = [
@@ -41,7 +40,7 @@ fn word(block: &[u8], i: usize) -> u32
     ensures { result ≡ Spec.word_of block.now i }
 {
     let at = 4 * i;
-    bytes::word(block[at], block[at + 1], block[at + 2], block[at + 3])
+    u32::from_be_bytes([block[at], block[at + 1], block[at + 2], block[at + 3]])
 }
 
 // The sixteen words of a block, and room for those after them.
@@ -50,10 +49,8 @@ fn loaded(block: &[u8]) -> [u32; 64]
     ensures { take 16 result ≡ tabulate (Spec.word_of block.now) 16 }
 {
     let mut w = [0u32; 64];
-    let mut i: usize = 0;
-    while i < 16 {
+    for i in 0..16 {
         w[i] = word(block, i);
-        i += 1;
     }
     w
 }
@@ -65,9 +62,9 @@ fn next_word(w: &[u32; 64], t: usize) -> u32
 {
     let s1 = words::small_sigma1(w[t - 2]);
     let s0 = words::small_sigma0(w[t - 15]);
-    let two = wrapping_add_u32(s1, w[t - 7]);
-    let three = wrapping_add_u32(two, s0);
-    wrapping_add_u32(three, w[t - 16])
+    s1.wrapping_add(w[t - 7])
+        .wrapping_add(s0)
+        .wrapping_add(w[t - 16])
 }
 
 // The 64 words of the message schedule, two in a turn: neither needs the other, so that they are computed side by side.
@@ -76,30 +73,27 @@ fn schedule(block: &[u8]) -> [u32; 64]
     ensures { result ≡ Spec.schedule block.now }
 {
     let mut w = loaded(block);
-    let mut t: usize = 16;
-    while t < 64 {
-        let even = next_word(&w, t);
-        w[t] = even;
-        let odd = next_word(&w, t + 1);
-        w[t + 1] = odd;
-        t += 2;
+    for t in (16..64).step_by(2) {
+        w[t] = next_word(&w, t);
+        w[t + 1] = next_word(&w, t + 1);
     }
     w
 }
 
 // The working variables from the hash value.
-fn initialized(h: [u32; 8]) -> Working
-    ensures { result ≡ Spec.initialized h }
+fn initialized(hash: [u32; 8]) -> Working
+    ensures { result ≡ Spec.initialized hash }
 {
+    let [a, b, c, d, e, f, g, h] = hash;
     Working {
-        a: h[0],
-        b: h[1],
-        c: h[2],
-        d: h[3],
-        e: h[4],
-        f: h[5],
-        g: h[6],
-        h: h[7],
+        a,
+        b,
+        c,
+        d,
+        e,
+        f,
+        g,
+        h,
     }
 }
 
@@ -108,21 +102,21 @@ fn round(v: Working, k: u32, w: u32) -> Working
 {
     let s1 = words::big_sigma1(v.e);
     let choice = words::ch(v.e, v.f, v.g);
-    let two = wrapping_add_u32(v.h, s1);
-    let three = wrapping_add_u32(two, choice);
-    let four = wrapping_add_u32(three, k);
-    let t1 = wrapping_add_u32(four, w);
+    let t1 = v
+        .h
+        .wrapping_add(s1)
+        .wrapping_add(choice)
+        .wrapping_add(k)
+        .wrapping_add(w);
     let s0 = words::big_sigma0(v.a);
     let majority = words::maj(v.a, v.b, v.c);
-    let t2 = wrapping_add_u32(s0, majority);
-    let a = wrapping_add_u32(t1, t2);
-    let e = wrapping_add_u32(v.d, t1);
+    let t2 = s0.wrapping_add(majority);
     Working {
-        a,
+        a: t1.wrapping_add(t2),
         b: v.a,
         c: v.b,
         d: v.c,
-        e,
+        e: v.d.wrapping_add(t1),
         f: v.e,
         g: v.f,
         h: v.g,
@@ -135,13 +129,11 @@ fn rounds(v: Working, k: &[u32; 64], w: &[u32; 64]) -> Working
     ensures { result ≡ Spec.rounds 64 w.now v }
 {
     let mut u = v;
-    let mut t: usize = 0;
-    while t < 64 {
+    for t in (0..64).step_by(4) {
         let first = round(u, k[t], w[t]);
         let second = round(first, k[t + 1], w[t + 1]);
         let third = round(second, k[t + 2], w[t + 2]);
         u = round(third, k[t + 3], w[t + 3]);
-        t += 4;
     }
     u
 }
@@ -151,14 +143,14 @@ fn added(v: Working, h: [u32; 8]) -> [u32; 8]
     ensures { result ≡ Spec.added v h }
 {
     [
-        wrapping_add_u32(v.a, h[0]),
-        wrapping_add_u32(v.b, h[1]),
-        wrapping_add_u32(v.c, h[2]),
-        wrapping_add_u32(v.d, h[3]),
-        wrapping_add_u32(v.e, h[4]),
-        wrapping_add_u32(v.f, h[5]),
-        wrapping_add_u32(v.g, h[6]),
-        wrapping_add_u32(v.h, h[7]),
+        v.a.wrapping_add(h[0]),
+        v.b.wrapping_add(h[1]),
+        v.c.wrapping_add(h[2]),
+        v.d.wrapping_add(h[3]),
+        v.e.wrapping_add(h[4]),
+        v.f.wrapping_add(h[5]),
+        v.g.wrapping_add(h[6]),
+        v.h.wrapping_add(h[7]),
     ]
 }
 
@@ -178,11 +170,9 @@ pub(crate) fn after_blocks(start: [u32; 8], bytes: &[u8]) -> [u32; 8]
 {
     let k = &K;
     let mut h = start;
-    let mut at: usize = 0;
-    while 64 <= bytes.len() - at {
-        let next = compressed(h, k, &bytes[at..at + 64]);
+    for block in bytes.chunks_exact(64) {
+        let next = compressed(h, k, block);
         h = next;
-        at += 64;
     }
     h
 }

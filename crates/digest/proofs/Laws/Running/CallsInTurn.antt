@@ -1,22 +1,23 @@
 -- What calls give one after the other: the digest of all bytes so far, from the start and from any possible running digest.
 -- Assumes nothing.
-use Rattle.std.proofs.Common.{◌≡◌, ℕ, ◌+◌, ◌<◌, ◌≤◌, Bool, true, false, leb, List, [], ◌∷◌, ◌++◌, length, replicate, sym, refl, ap, ◌∙◌, zero-add, arith, length-append, le-leb, leb-false, leb-true}
-use mathlib.Core.Bool.{and-eq-true_iff}
+use Rattle.std.proofs.Common.{◌≡◌, ℕ, ◌+◌, ◌<◌, ◌≤◌, Bool, true, false, Result, Ok, Err, if◌then◌else◌, leb, List, [], ◌∷◌, ◌++◌, length, replicate, sym, refl, ap, ◌∙◌, zero-add, arith, length-append, le-leb, leb-false, leb-true}
+use mathlib.Core.Bool.{and-eq-true_iff, false≢true}
 use mathlib.Core.List.{flatten}
 use borrow.Author.Tests.{lt-leb}
 use lib.ListN.{length-replicate}
-use lib.Seq.{paste-zero}
 use Rattle.answer.specs.Answer.{accepted, refused}
-use Rattle.digest.specs.Message.{Algorithm, limit, hashing}
+use Rattle.digest.specs.Message.{Algorithm, digest_of, limit, hashing}
 use Rattle.digest.specs.Running.{possible, accepts, start, fed, finished, feeding, finishing}
 use Rattle.slices.specs.Lists.{all_are}
+use Rattle.digest.specs.Inner.Steps.{feeding_step, finishing_step, hashing_step}
+use Rattle.answer.specs.declared.Answer.{Answer}
 use Rattle.digest.specs.Theorems.{after_calls, CallsFromStart, CallsFrom}
 use Rattle.digest.specs.declared.running.Running.{Running}
 use Rattle.digest.specs.declared.running.Fed.{Fed}
 use Rattle.digest.specs.declared.running.Finished.{Finished}
 use Rattle.digest.specs.declared.message.Hashed.{Hashed}
 use Rattle.digest.proofs.Laws.Running.Chain.{length_rest}
-use Rattle.digest.proofs.Laws.Running.WaitingArray.{ready, accepts-within, accepts-past, fed-few}
+use Rattle.digest.proofs.Laws.Running.WaitingArray.{ready, accepts-within, accepts-past, fed-few, waiting-filled}
 use Rattle.digest.proofs.Laws.Running.Feeding.{two-feedings, digest-so-far, accepts-fed}
 use Rattle.digest.proofs.Laws.Running.AcceptedCalls.{feeding-accepted, feeding-refused, finishing-accepted, hashing-accepted, hashing-refused}
 
@@ -40,7 +41,7 @@ waiting-64 a s m = simp (length-append, length-replicate, length_rest) (omega ar
 fed-nothing : (a : Algorithm) (s : Running) → length s.waiting ≡ 64 → accepts s 0 ≡ true → s ≡ fed a s []
 fed-nothing a s l e =
     let r = ready s 0 e in
-    let few = fed-few a s [] l s.waiting r (omega (arith, r.counted)) (paste-zero s.waiting s.count []) in
+    let few = fed-few a s [] l s.waiting (omega (arith, r.counted)) (waiting-filled s l (omega (arith, r.counted)) r.empty) in
     let c : s.count ≡ s.count + 0 = omega arith in
     let t : s.total ≡ s.total + 0 = omega arith in
     (λ i. record { words = s.words; waiting = s.waiting; count = c i; total = t i }) ∙ few
@@ -107,6 +108,19 @@ pub start-fed : (a : Algorithm) → start a ≡ fed a (start a) []
 unfolding start
 start-fed a = fed-nothing a (start a) refl (accepts-start a 0)
 
+-- what is in a step
+is_ok : {A B : Type 0} → Result A B → Bool
+is_ok (Ok x) = true
+is_ok (Err e) = false
+
+value_or : {A B : Type 0} → A → Result A B → A
+value_or y (Ok x) = x
+value_or y (Err e) = y
+
+error_or : {A B : Type 0} → B → Result A B → B
+error_or y (Ok x) = y
+error_or y (Err e) = e
+
 module _ (a : Algorithm) where
   module _ (x y : List ℕ) where
     fed_by : (b : Bool) → leb (length x + length y) limit ≡ b → Fed
@@ -157,3 +171,31 @@ module _ (a : Algorithm) where
       let e : leb (length m) limit ≡ true = le-leb (length m) limit l in
       let q = p ∙ finishing-fed a (start a) m refl (accepts-start a (length m) ∙ e) in
       cc (hashing-accepted a m e, digest-so-far a m, q)
+
+  -- ---- the same as steps that may fail
+  feeding-step-start : (m : List ℕ) (b : Bool) → leb (length m) limit ≡ b
+      → feeding_step a (start a) m ≡ (if b then Ok (fed a (start a) m) else Err (refused 25 0))
+  unfolding feeding_step
+  feeding-step-start m b e = let k = accepts-start a (length m) ∙ e in rw k refl
+
+  pub step-refused : (m : List ℕ) (s : Running) (r : Result Running Answer) (e : Answer) → s ≡ start a → r ≡ feeding_step a s m → r ≡ Err e
+      → Err e ≡ hashing_step a m
+  unfolding hashing_step error_or is_ok
+  step-refused m s r e p q k = go (leb (length m) limit) refl
+    where
+      go : (b : Bool) → leb (length m) limit ≡ b → ◌≡◌ {A = Result (List ℕ) Answer} (Err e) (if b then Ok (digest_of a m) else Err (refused 25 0))
+      go true h = absurd (false≢true (ap is_ok (sym k ∙ q ∙ ap (λ (t : Running). feeding_step a t m) p ∙ feeding-step-start m true h)))
+      go false h = ap (λ (x : Answer). Err x) (ap (error_or e) (sym k ∙ q ∙ ap (λ (t : Running). feeding_step a t m) p ∙ feeding-step-start m false h))
+
+  pub step-taken : (m : List ℕ) (s x : Running) (r : Result Running Answer) (d : Result (List ℕ) Answer) → s ≡ start a → r ≡ feeding_step a s m → r ≡ Ok x
+      → d ≡ finishing_step a x → d ≡ hashing_step a m
+  unfolding hashing_step finishing_step start is_ok value_or
+  step-taken m s x r d p q k f = f ∙ go (leb (length m) limit) refl
+    where
+      go : (b : Bool) → leb (length m) limit ≡ b → finishing_step a x ≡ (if b then Ok (digest_of a m) else Err (refused 25 0))
+      go true h =
+          let y = ap (value_or x) (sym k ∙ q ∙ ap (λ (t : Running). feeding_step a t m) p ∙ feeding-step-start m true h) in
+          let l : length m ≤ limit = leb-true (length m) limit h in
+          let t = accepts-fed a (start a) m 0 refl refl (omega arith) in
+          ap (finishing_step a) y ∙ (rw t (ap (λ (z : List ℕ). Ok z) (digest-so-far a m)))
+      go false h = absurd (false≢true (ap is_ok (sym (sym k ∙ q ∙ ap (λ (t : Running). feeding_step a t m) p ∙ feeding-step-start m false h))))

@@ -1,6 +1,6 @@
 -- Wrapping sums, the message schedule and the rounds, one step at a time.
 -- Assumes nothing.
-use Rattle.std.proofs.Common.{◌≡◌, ℕ, zero, suc, ◌+◌, ◌-◌, ◌%◌, ◌^◌, ◌<◌, ◌≤◌, List, length, take, set, sym, ap, ◌∙◌, ap₂, add-one, arith, length-append, get_or-take}
+use Rattle.std.proofs.Common.{◌≡◌, ℕ, zero, suc, ◌+◌, ◌-◌, ◌%◌, ◌^◌, ◌<◌, ◌≤◌, List, length, take, set, sym, refl, ap, ◌∙◌, ap₂, add-one, arith, length-append, get_or-take}
 use native.Mathlib.Nat.{mod-add-mod}
 use Rattle.slices.specs.Lists.{at}
 use Rattle.digest.specs.Sha256.{constants, next_word, extended, round, rounds}
@@ -8,8 +8,14 @@ use Rattle.digest.specs.declared.sha256.Working.{Working}
 use Rattle.slices.proofs.Laws.Tables.{stored_next}
 
 -- a wrapping sum of a wrapping sum is one sum with one remainder
-pub sum_more : (s c : ℕ) {x y : ℕ} → x ≡ s % 2 ^ 32 → y ≡ (x + c) % 2 ^ 32 → y ≡ (s + c) % 2 ^ 32
+sum_more : (s c : ℕ) {x y : ℕ} → x ≡ s % 2 ^ 32 → y ≡ (x + c) % 2 ^ 32 → y ≡ (s + c) % 2 ^ 32
 sum_more s c p q = q ∙ ap (λ (n : ℕ). (n + c) % 2 ^ 32) p ∙ mod-add-mod s (2 ^ 32) c
+
+pub sum-4 : (a b c d : ℕ) → (((a + b) % 2 ^ 32 + c) % 2 ^ 32 + d) % 2 ^ 32 ≡ (a + b + c + d) % 2 ^ 32
+sum-4 a b c d = sum_more (a + b + c) d (sum_more (a + b) c refl refl) refl
+
+pub sum-5 : (a b c d e : ℕ) → ((((a + b) % 2 ^ 32 + c) % 2 ^ 32 + d) % 2 ^ 32 + e) % 2 ^ 32 ≡ (a + b + c + d + e) % 2 ^ 32
+sum-5 a b c d e = sum_more (a + b + c + d) e (sum-4 a b c d) refl
 
 pub length-extended : (n : ℕ) (ws : List ℕ) → length (extended n ws) ≡ length ws + n
 unfolding extended

@@ -1,18 +1,11 @@
-use Rattle.std.proofs.Common.{arith, refl, rules, sym, take_all, ◌∙◌, ◌≡◌}
-use Rattle.slices.specs.Lists.{tabulate}
-use Rattle.digest.specs.Padding.{word_bytes}
-use Rattle.slices.proofs.Laws.Tables.{tabulate-next}
+use Rattle.std.proofs.Common.{rules, tests, ◌/◌, ◌%◌}
+use Rattle.slices.specs.Lists.{at}
+use Rattle.digest.specs.Padding.{big_endian, byte_of, word_bytes}
+use Rattle.digest.proofs.Laws.Bytes.{made-by, words-byte}
 use Rattle.digest.proofs.bytes.word_bytes.Goals as goal
-
-pub loop-i-init : goal.loop-i-init
-unfolding tabulate
-loop-i-init c = (search rules, search rules, refl)
-
-pub loop-i-preserved : goal.loop-i-preserved
-loop-i-preserved c = (search rules, search rules, tabulate-next _ _ _ _ (search rules) c.loop-i.invariant.2 c.word_byte.ensures)
 
 pub returns : goal.returns
 unfolding word_bytes
 returns c =
-    let e : c.loop-i.i ≡ 32 = omega arith in
-    sym (take_all 32 _ (omega arith)) ∙ (rw e at c.loop-i.invariant.2)
+    let words = c.args.words.now in
+    made-by _ _ (λ i. byte_of big_endian 4 (at words (i / 4)) (i % 4)) (λ x y q k. (search (rules, tests), words-byte words x y (search (rules, tests)))) _ 32 c.from_fn.ensures.items

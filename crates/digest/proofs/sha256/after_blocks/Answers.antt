@@ -1,24 +1,21 @@
-use Rattle.std.proofs.Common.{arith, length, length-drop, length-take, refl, rules, ◌/◌, ◌≡◌}
+use Rattle.std.proofs.Common.{arith, refl, rules, ◌∙◌}
 use Rattle.digest.specs.Sha256.{constants, compressed}
-use Rattle.digest.specs.Message.{chain, after_blocks}
-use Rattle.digest.proofs.Laws.Running.Chain.{chain_next}
+use Rattle.digest.proofs.Laws.Running.Chain.{so-far-none, so-far-next, so-far-all}
+use Rattle.std.proofs.lemmas.List.{length_push}
 use Rattle.digest.proofs.sha256.after_blocks.Goals as goal
 
-pub loop-at-init : goal.loop-at-init
-unfolding chain
-loop-at-init c = (search rules, search rules, refl)
+pub loop-block-init : goal.loop-block-init
+loop-block-init c = (search rules, so-far-none compressed _ _ _ (search rules))
 
 pub compressed-next-requires : goal.compressed-next-requires
 unfolding constants
-compressed-next-requires c = (refl, simp (length-take, length-drop) (omega arith))
+compressed-next-requires c = (refl, c.in-Some.ensures.steps.1.1 ∙ c.loop-block.invariant.0)
 
-pub loop-at-preserved : goal.loop-at-preserved
-loop-at-preserved c =
-    let loop = c.loop-at in
-    (search rules, search rules, chain_next compressed _ _ _ _ loop.at loop.invariant.1 loop.invariant.2 c.compressed-next.ensures)
+pub loop-block-preserved : goal.loop-block-preserved
+loop-block-preserved c =
+    let steps = c.in-Some.ensures.steps in
+    let size = c.loop-block.invariant.0 in
+    (steps.0 ∙ size, so-far-next compressed _ _ _ _ _ c.loop-block.invariant.1 _ _ _ _ (length_push _ _) steps.1.0 (steps.1.1 ∙ size) c.compressed-next.ensures)
 
 pub returns : goal.returns
-unfolding after_blocks
-returns c =
-    let e : c.loop-at.at / 64 ≡ length c.args.bytes.now / 64 = omega arith in
-    rw e at c.loop-at.invariant.2
+returns c = so-far-all compressed _ _ _ _ _ c.loop-block.invariant.1 (omega (arith, c.in-None.ensures.steps.1.0, c.loop-block.invariant.0))

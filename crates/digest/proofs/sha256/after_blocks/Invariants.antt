@@ -1,10 +1,9 @@
-use Rattle.std.proofs.Common.{length, ◌%◌, ◌-◌, ◌/◌, ◌≡◌, ◌≤◌}
+use Rattle.std.proofs.Common.{length, ◌≡◌}
+use Rattle.std.specs.Slice.Iter.{chunks_exact_rest, chunks_exact_size}
 use Rattle.digest.specs.Sha256.{compressed}
-use Rattle.digest.specs.Message.{chain}
+use Rattle.digest.proofs.Laws.Running.Chain.{SoFar}
 use Rattle.digest.proofs.sha256.after_blocks.Given as goal
 
-abbrev pub invariant-loop-at : goal.invariant-loop-at
-invariant-loop-at l = (l.at ≤ length l.bytes) × (l.at % 64 ≡ 0) × (l.h ≡ chain compressed (l.at / 64) l.initial.h l.bytes)
-
-abbrev pub decreases-loop-at : goal.decreases-loop-at
-decreases-loop-at l = length l.bytes - l.at
+abbrev pub invariant-loop-block : goal.invariant-loop-block
+invariant-loop-block l =
+    (chunks_exact_size l.block-iterator ≡ 64) × SoFar compressed l.initial.h l.bytes l.h (chunks_exact_rest l.block-iterator) (length l.yielded)

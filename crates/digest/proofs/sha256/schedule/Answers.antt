@@ -12,8 +12,8 @@ pub loop-t-preserved : goal.loop-t-preserved
 loop-t-preserved c =
     let loop = c.loop-t in
     let sixteen = length-tabulate _ 16 in
-    let even = extended-next _ _ loop.t (loop.t + 1) _ (omega arith) sixteen (search rules) (search rules) loop.invariant.4 c.next_word-even.ensures in
-    let odd = extended-next _ _ (loop.t + 1) (loop.t + 2) _ (omega arith) sixteen (search rules) (simp length-set (omega arith)) even c.next_word-odd.ensures in
+    let even = extended-next _ _ loop.t (loop.t + 1) _ (omega arith) sixteen (search rules) (search rules) loop.invariant.4 c.next_word.ensures in
+    let odd = extended-next _ _ (loop.t + 1) (loop.t + 2) _ (omega arith) sixteen (search rules) (simp length-set (omega arith)) even c.next_word-in-loop-t.ensures in
     (search rules, search rules, search rules, search rules, odd)
 
 pub returns : goal.returns

@@ -3,4 +3,4 @@ use Rattle.digest.proofs.sha256.word.Goals as goal
 
 pub returns : goal.returns
 unfolding word_of
-returns c = c.word.ensures
+returns c = c.from_be_bytes.ensures

@@ -4,4 +4,4 @@ use Rattle.digest.proofs.words.big_sigma1.Goals as goal
 
 pub returns : goal.returns
 unfolding Words.big_sigma1
-returns c = λ i. bit_xor (bit_xor (c.rotr.ensures i) (c.rotr-2.ensures i)) (c.rotr-3.ensures i)
+returns c = λ i. bit_xor (bit_xor (c.rotate_right.ensures i) (c.rotate_right-2.ensures i)) (c.rotate_right-3.ensures i)

@@ -4,4 +4,4 @@ use Rattle.digest.proofs.words.small_sigma1.Goals as goal
 
 pub returns : goal.returns
 unfolding Words.small_sigma1
-returns c = λ i. bit_xor (bit_xor (c.rotr.ensures i) (c.rotr-2.ensures i)) (Words.shr 10 c.args.x)
+returns c = λ i. bit_xor (bit_xor (c.rotate_right.ensures i) (c.rotate_right-2.ensures i)) (Words.shr 10 c.args.x)

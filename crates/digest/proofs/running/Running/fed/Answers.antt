@@ -1,15 +1,17 @@
-use Rattle.std.proofs.Common.{arith, rules, ◌-◌}
+use Rattle.std.proofs.Common.{List, ap, arith, refl, rules, ℕ, ◌-◌, ◌++◌, ◌∙◌}
 use Rattle.digest.specs.Sha256.{sha256}
-use Rattle.digest.proofs.Laws.Running.WaitingArray.{fed-few, fed-many, part_to_end}
+use Rattle.digest.specs.Running.{waiting_bytes, zero_filled}
+use Rattle.digest.proofs.Laws.Running.WaitingArray.{fed-few, fed-many, rest-from}
 use Rattle.digest.proofs.running.Running.fed.Goals as goal
 
 pub returns-then-bytes-room : goal.returns-then-bytes-room
 returns-then-bytes-room c =
-    fed-few sha256 _ _ (search rules) _ c.requires (omega arith) c.filled-more.ensures
+    fed-few sha256 c.args.self.now c.args.bytes.now (search rules) _ (omega arith) c.filled.ensures
 
 pub returns : goal.returns
 returns c =
-    let args = c.args in
-    let after = part_to_end args.bytes.now (64 - args.self.count) in
-    fed-many sha256 _ _ (search rules) _ _ _ _ _ (omega (arith, c.requires.counted)) (omega arith) c.filled-full.ensures c.after_blocks-first.ensures after
-    c.after_blocks-next.ensures c.rest_waiting-left.ensures
+    let self = c.args.self.now in
+    let after = c.split_at.result.1.now in
+    let full = c.filled-2.ensures ∙ ap (λ (x : List ℕ). zero_filled (waiting_bytes self ++ x)) c.split_at.ensures.front in
+    fed-many sha256 self c.args.bytes.now (search rules) (64 - self.count) _ _ _ after _ _ _ (omega (arith, c.requires.counted)) (omega arith) refl full
+    c.after_blocks-words.ensures c.split_at.ensures.back c.after_blocks.ensures (rest-from after _ refl) c.filled-3.ensures refl

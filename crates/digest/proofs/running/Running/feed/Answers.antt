@@ -1,18 +1,12 @@
-use Rattle.std.proofs.Common.{sym, ◌∙◌}
+use Rattle.std.proofs.Common.{ap, sym, ◌∙◌}
 use Rattle.digest.specs.Sha256.{sha256}
-use Rattle.digest.proofs.Laws.Running.WaitingArray.{ready}
-use Rattle.digest.proofs.Laws.Running.AcceptedCalls.{feeding-accepted, feeding-refused}
+use Rattle.digest.proofs.Laws.Running.AcceptedCalls.{fed_by, feeding-by}
 use Rattle.digest.proofs.running.Running.feed.Goals as goal
 
-pub fed-next-requires : goal.fed-next-requires
-fed-next-requires c = ready _ _ (sym c.accepts.ensures ∙ c.if-accepts.true)
+pub returns-in-Ok : goal.returns-in-Ok
+returns-in-Ok c =
+    (λ i. record { answer = c.accepted.ensures i; running = c.in-Ok.running })
+    ∙ ap (fed_by c.args.self) (sym c.in-Ok.is ∙ c.after.ensures) ∙ feeding-by sha256 c.args.self c.args.bytes.now
 
-pub returns-then-accepts : goal.returns-then-accepts
-returns-then-accepts c =
-    (λ i. record { answer = c.accepted.ensures i; running = c.fed-next.ensures i })
-    ∙ sym (feeding-accepted sha256 _ _ (sym c.accepts.ensures ∙ c.if-accepts.true))
-
-pub returns-else-accepts : goal.returns-else-accepts
-returns-else-accepts c =
-    (λ i. record { answer = c.refused.ensures i; running = c.args.self })
-    ∙ sym (feeding-refused sha256 _ _ (sym c.accepts.ensures ∙ c.if-accepts.false))
+pub returns-in-Err : goal.returns-in-Err
+returns-in-Err c = ap (fed_by c.args.self) (sym c.in-Err.is ∙ c.after.ensures) ∙ feeding-by sha256 c.args.self c.args.bytes.now

@@ -1,11 +1,12 @@
 use Rattle.std.proofs.Common.{eq-eqb, ne_eqb}
 use Rattle.digest.specs.Running.{possible}
+use Rattle.digest.proofs.Laws.Running.Zeros.{zeros-from}
 use Rattle.digest.proofs.running.Running.possible.Goals as goal
 
-pub returns-then-count-total : goal.returns-then-count-total
+pub returns-then-self : goal.returns-then-self
 unfolding possible
-returns-then-count-total c = simp (eq-eqb _ _ c.if-count-total.true) c.zero_from.ensures
+returns-then-self c = simp (eq-eqb _ _ c.if-self.true) (search zeros-from)
 
-pub returns-else-count-total : goal.returns-else-count-total
+pub returns-else-self : goal.returns-else-self
 unfolding possible
-returns-else-count-total c = simp (ne_eqb _ _ c.if-count-total.false)
+returns-else-self c = simp (ne_eqb _ _ c.if-self.false)
