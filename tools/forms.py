@@ -3,6 +3,7 @@
 import re
 import sys
 from collections import defaultdict
+from difflib import SequenceMatcher
 from pathlib import Path
 
 root = Path(sys.argv[1] if len(sys.argv) > 1 else '.')
@@ -75,18 +76,22 @@ def point1():
 
 def shape(body):
     body = re.sub(r'"[^"]*"', 'S', body)
+    body = re.sub(r'([{}()\[\],;.&!?:<>=+*/%|-])', r' \1 ', body)
     body = re.sub(r'\b\d\w*\b', 'N', body)
     body = re.sub(r'\b(?!fn|let|mut|if|else|while|loop|for|in|match|return|as|bool|true|false|Ok|Err|Some|None)[A-Za-z_]\w*\b', 'x', body)
     return ' '.join(body.split())
 
 
 def point2():
-    by_shape = defaultdict(list)
-    for place, name, head, body in functions():
-        if len(shape(body)) >= 24:
-            by_shape[shape(re.sub(r'(requires|ensures).*', '', head, flags=re.S).split('(', 1)[1]) + shape(body)].append((place, name))
-    twins = [group for group in by_shape.values() if len(group) > 1]
-    return show('groups of functions of one shape', [(group[0][0], ', '.join(f'{name} ({place})' for place, name in group)) for group in twins])
+    """pairs of functions, C's own aside, whose bodies are nine tenths the same when each name is x, each number N"""
+    all_shapes = [(place, name, shape(body).split()) for place, name, head, body in functions()
+                  if 'extern "C"' not in head and len(shape(body).split()) >= 24]
+    twins = []
+    for i, (place, name, left) in enumerate(all_shapes):
+        for other, other_name, right in all_shapes[i + 1:]:
+            if min(len(left), len(right)) * 1.3 >= max(len(left), len(right)) and SequenceMatcher(None, left, right, False).ratio() >= 0.9:
+                twins.append((place, f'{name}, {other_name} ({other})'))
+    return show('pairs of functions of nearly one shape', twins)
 
 
 def point3():

@@ -1,3 +1,4 @@
+pub mod Chains
 pub mod OrElse
 pub mod Refusals
 pub mod Steps

@@ -1,7 +1,8 @@
 -- What the selection's function promises: by what is read, a fault; or what `select_in` says (Selection.antt), with each data set by the
--- extent in which it is read. `Selected` and `Selection` are the struct and the enum of src/select.rt.
+-- extent in which it is read. `Selected` is the struct of src/select.rt.
 -- Assumes nothing.
-use Rattle.std.specs.Prelude.{ℕ, ◌≤◌, ◌≡◌, List, length}
+use Rattle.std.specs.Prelude.{ℕ, ◌≤◌, ◌≡◌, List, Option, Result, Ok, Err, length}
+use Rattle.answer.specs.declared.Answer.{Answer}
 use Rattle.answer.specs.Answer.{refused}
 use Rattle.slices.specs.Lists.{between}
 use Rattle.dataset.specs.Tree.{Elements}
@@ -14,9 +15,6 @@ use Rattle.selection.specs.Selection as spec
 use Rattle.selection.specs.declared.select.Algorithm.{Algorithm}
 use Rattle.selection.specs.declared.select.Algorithm.TheVariants as algorithm
 use Rattle.selection.specs.declared.select.Selected.{Selected}
-use Rattle.selection.specs.declared.select.Selection.{Selection}
-use Rattle.selection.specs.declared.select.Selection.TheVariants as selection
-use Rattle.selection.specs.declared.select.Signature.{Signature}
 
 -- the code's cases of an algorithm (13.2)
 abbrev pub algorithm_case : spec.Algorithm → Algorithm
@@ -37,15 +35,15 @@ pub record IsSelected (d : List ℕ) (x : Extent) (list : List ℕ) (a : spec.Al
   pub item-reads : elements_in d parts.item ≡ read item item-next
 
 -- what is selected in the data set that lies in x: a refusal's number (9.3), or that
-abbrev pub SelectionAs : List ℕ → Extent → spec.Selection → Selection → Type 0
-SelectionAs d x (refusal number) r = r ≡ selection.Refused (refused number 0)
-SelectionAs d x (selected list a es item) r = (parts : Selected) × (r ≡ selection.Selected parts) × IsSelected d x list a es item parts
+abbrev pub SelectionAs : List ℕ → Extent → spec.Selection → Result Selected Answer → Type 0
+SelectionAs d x (refusal number) r = r ≡ Err (refused number 0)
+SelectionAs d x (selected list a es item) r = (parts : Selected) × (r ≡ Ok parts) × IsSelected d x list a es item parts
 
 -- by what is read in x: its fault, or what is selected there, in a whole data set whose elements are `whole`
-abbrev pub SelectedBy : (uid : List ℕ) (which : Signature) (d : List ℕ) (whole : Elements) (x : Extent) → Reading Elements → Selection → Type 0
-SelectedBy uid which d whole x (fault f) r = r ≡ selection.Refused f
+abbrev pub SelectedBy : (uid : List ℕ) (which : Option ℕ) (d : List ℕ) (whole : Elements) (x : Extent) → Reading Elements → Result Selected Answer → Type 0
+SelectedBy uid which d whole x (fault f) r = r ≡ Err f
 SelectedBy uid which d whole x (read es next) r = SelectionAs d x (select_in uid which whole d es) r
 
 -- in the data set x, which is `whole` or stands in it
-abbrev pub SelectedIn : (uid : List ℕ) (which : Signature) (d : List ℕ) (whole x : Extent) → Selection → Type 0
+abbrev pub SelectedIn : (uid : List ℕ) (which : Option ℕ) (d : List ℕ) (whole x : Extent) → Result Selected Answer → Type 0
 SelectedIn uid which d whole x r = SelectedBy uid which d (tree_of (elements_in d whole)) x (elements_in d x) r

@@ -1,7 +1,8 @@
 -- Which signature item, parameters item, algorithm and list signature mode takes: docs/RULES.md, 8.1 to 8.3; 18 to 23 (9.3). The
 -- definitions are over the elements of a data set: those of the whole, or of an item, which "is again a data set" (2.2).
 -- Assumes nothing.
-use Rattle.std.specs.Prelude.{ℕ, ◌+◌, ◌-◌, Bool, true, false, not, ◌&&◌, ◌||◌, List, [], ◌∷◌, ◌++◌, eqb, length, take, drop, get_or, if◌then◌else◌}
+use Rattle.std.specs.Prelude.{ℕ, ◌+◌, ◌-◌, Bool, true, false, not, ◌&&◌, ◌||◌, List, [], ◌∷◌, ◌++◌, None, Some, eqb, length, take, drop, get_or, if◌then◌else◌}
+use Rattle.std.specs.Prelude as code
 use Rattle.std.proofs.Math.Option.{Option, some}
 use Rattle.std.proofs.Math.Option as Opt
 use Rattle.slices.specs.Lists.{between, same_bytes, all_are}
@@ -9,8 +10,6 @@ use Rattle.dataset.specs.Tags.{mac_id_number, mac_calculation_transfer_syntax_ui
 use Rattle.dataset.specs.Vr.{AT, CS, UI, US}
 use Rattle.dataset.specs.Tree.{Element, Elements, Items}
 use Rattle.dataset.specs.Lookup.{element_of}
-use Rattle.selection.specs.declared.select.Signature.{Signature}
-use Rattle.selection.specs.declared.select.Signature.TheVariants as signature
 
 -- ---- items and values
 
@@ -44,11 +43,11 @@ item_where test (some items) = first_item test 0 items
 abbrev pub item_numbered : (number : ℕ) → Elements → Option Elements
 item_numbered number es = item_where (λ index item. eqb index number) (items_of (element_of digital_signatures_sequence es))
 
--- by the caller's choice. 8.1: "Where no number is given, 0 is taken." 18: "there is no (FFFA,FFFA) with VR SQ, or it has no item with the
--- signature's number" (9.3)
-unfoldable pub signature_item : Signature → Elements → Option Elements
-signature_item signature.Unnamed es = item_numbered 0 es
-signature_item (signature.Number number) es = item_numbered number es
+-- by the caller's choice: none is named, or its number from 0. 8.1: "Where no number is given, 0 is taken." 18: "there is no (FFFA,FFFA) with
+-- VR SQ, or it has no item with the signature's number" (9.3)
+unfoldable pub signature_item : (which : code.Option ℕ) → Elements → Option Elements
+signature_item None es = item_numbered 0 es
+signature_item (Some number) es = item_numbered number es
 
 -- ---- the parameters item (a term of RULES 8.2: an item of the MAC Parameters Sequence)
 
@@ -139,7 +138,7 @@ parameters_select uid d es item parameters =
 
 -- "18 to 23" (9.5), in a data set whose elements are es, of a whole data set whose elements are `whole`. In every call the two are the same data
 -- set (`select`), and nothing here reads `whole`.
-unfoldable pub select_in : (uid : List ℕ) → Signature → (whole : Elements) (d : List ℕ) (es : Elements) → Selection
+unfoldable pub select_in : (uid : List ℕ) (which : code.Option ℕ) (whole : Elements) (d : List ℕ) (es : Elements) → Selection
 select_in uid which whole d es =
     need 18 (signature_item which es) λ item.
     need 19 (mac_id_of item d) λ id.
@@ -147,5 +146,5 @@ select_in uid which whole d es =
     parameters_select uid d es item parameters
 
 -- what a call selects, in the whole data set. 8.2: "in the top level's (FFFA,FFFA)"
-abbrev pub select : (uid : List ℕ) → Signature → (whole : Elements) (d : List ℕ) → Selection
+abbrev pub select : (uid : List ℕ) (which : code.Option ℕ) (whole : Elements) (d : List ℕ) → Selection
 select uid which whole d = select_in uid which whole d whole

@@ -1,9 +1,11 @@
--- What is signed by where it lies: the listed elements of the data set in an extent and, in signature mode, the signature item's own. Its
--- stream, the numbers 10 to 16 (RULES, 9.4, 9.5), and what is left in the output. `SignatureItem` is the enum of src/walk.rt.
+-- What is signed by where it lies: the listed elements of the data set in an extent and, in signature mode, the signature item's own, by the
+-- extent of the item. Its stream, the numbers 10 to 16 (RULES, 9.4, 9.5), and what is left in the output.
 -- Assumes nothing.
-use Rattle.std.specs.Prelude.{ℕ, ◌+◌, ◌≤◌, ◌≡◌, List, ◌++◌, eqb, ltb, length, drop, if◌then◌else◌}
+use Rattle.std.specs.Prelude.{ℕ, ◌+◌, ◌≤◌, ◌≡◌, List, ◌++◌, Option, Some, None, Result, Ok, Err, eqb, ltb, length, drop, if◌then◌else◌}
+use Rattle.std.specs.Result.{IfOk}
 use Rattle.answer.specs.declared.Answer.{Answer}
 use Rattle.answer.specs.Answer.{accepted, refused, ◌or_else◌}
+use Rattle.answer.specs.Step.{step_by, test_by}
 use Rattle.dataset.specs.Tree.{Elements}
 use Rattle.dataset.specs.Reading.{Reading, read, answer_of, tree_of}
 use Rattle.dataset.specs.Extent.{elements_in}
@@ -12,20 +14,18 @@ use Rattle.stream.specs.TagList.{tags_in, list_answer}
 use Rattle.stream.specs.Stream.{elements_stream, listed_stream}
 use Rattle.stream.specs.Listed.{tags_answer}
 use Rattle.stream.specs.Own.{own}
-use Rattle.stream.specs.declared.walk.SignatureItem.{SignatureItem}
-use Rattle.stream.specs.declared.walk.SignatureItem.TheVariants as signature_item
 
 -- the reading of the signature item; where there is none it has no elements. 1.5: "List mode takes in no fields of a signature."
-abbrev pub item_reading : List ℕ → SignatureItem → Reading Elements
-item_reading d signature_item.Absent = read Elements.none 0
-item_reading d (signature_item.Item x) = elements_in d x
+abbrev pub item_reading : List ℕ → Option Extent → Reading Elements
+item_reading d None = read Elements.none 0
+item_reading d (Some x) = elements_in d x
 
 -- 8.4: "After the listed elements the stream goes on with the signature item's own elements, by section 5."
 unfoldable pub signed_stream : (tags : List ℕ) (es item : Elements) (d : List ℕ) → List ℕ
 signed_stream tags es item d = listed_stream tags es d ++ elements_stream (own item) d
 
 -- the stream of a list in the data set in x, and of the signature item
-unfoldable pub stream_in : (list d : List ℕ) → Extent → SignatureItem → List ℕ
+unfoldable pub stream_in : (list d : List ℕ) → Extent → Option Extent → List ℕ
 stream_in list d x item = signed_stream (tags_in list) (tree_of (elements_in d x)) (tree_of (item_reading d item)) d
 
 -- by the readings of the data set and of the signature item: "2 to 8; then for each tag in turn 13, 14, 15" (9.4), and the item's fault
@@ -34,11 +34,11 @@ read_answer tags set item = answer_of set or_else tags_answer 0 tags (tree_of se
 
 -- "10; 11 over the whole list; 12 over the whole list; 2 to 8; then for each tag in turn 13, 14, 15" (9.4). In signature mode (9.5) both data
 -- sets were read before 18 to 23, so that neither's fault comes here (docs/DECISIONS.md, L17).
-unfoldable pub answer_to15 : (list d : List ℕ) → Extent → SignatureItem → Answer
+unfoldable pub answer_to15 : (list d : List ℕ) → Extent → Option Extent → Answer
 answer_to15 list d x item = list_answer list or_else read_answer (tags_in list) (elements_in d x) (item_reading d item)
 
 -- what measuring answers: that, or else the stream's length (7.9)
-unfoldable pub measure : (list d : List ℕ) → Extent → SignatureItem → Answer
+unfoldable pub measure : (list d : List ℕ) → Extent → Option Extent → Answer
 measure list d x item = answer_to15 list d x item or_else accepted (length (stream_in list d x item))
 
 -- 16: "the output room is less than the stream's length" (9.3). 7.3: "the answer's length is the stream's."
@@ -46,7 +46,7 @@ unfoldable pub answer_from16 : (stream : List ℕ) (room : ℕ) → Answer
 answer_from16 stream room = (if ltb room (length stream) then refused 16 0 else accepted 0) or_else accepted (length stream)
 
 -- what writing answers, in the output room `room`; `later` is what the caller refuses behind 15 and before 16: number 9, or none
-unfoldable pub answer : (list d : List ℕ) → Extent → SignatureItem → (later : Answer) (room : ℕ) → Answer
+unfoldable pub answer : (list d : List ℕ) → Extent → Option Extent → (later : Answer) (room : ℕ) → Answer
 answer list d x item later room = answer_to15 list d x item or_else later or_else answer_from16 (stream_in list d x item) room
 
 -- what a call with the answer a leaves in the output or work buffer `out`. 7.3: "An accepted call puts the stream at the start of the output
@@ -55,9 +55,16 @@ answer list d x item later room = answer_to15 list d x item or_else later or_els
 unfoldable pub left_in : (a : Answer) (stream out : List ℕ) → List ℕ
 left_in a stream out = if eqb a.number 0 then stream ++ drop (length stream) out else out
 
--- ---- what `write` promises: its answer r, and what it leaves. List and item may lie anywhere, so that the bound is twice the data; that no
--- stream is longer than its data set (5.6) is said of the modes.
-pub record WrittenAs (list d : List ℕ) (x : Extent) (item : SignatureItem) (later : Answer) (out : List ℕ) (r : Answer) (after : List ℕ) : Type 0 where
-  pub answers : r ≡ answer list d x item later (length out)
-  pub output : after ≡ left_in r (stream_in list d x item) out
-  pub short : r.number ≡ 0 → r.length ≤ length d + length d
+-- ---- what `write` promises: r is its step, the stream's length or the refusal, and `after` what it leaves. `later` is the test of what the
+-- caller refuses, by its answer. A refusal, of whatever it is, changes no byte. List and item may lie anywhere, so that the bound is twice the
+-- data; that no stream is longer than its data set (5.6) is said of the modes.
+
+-- what a step leaves in the output
+abbrev pub left_by : Result ℕ Answer → (stream out : List ℕ) → List ℕ
+left_by (Ok length) stream out = left_in (accepted length) stream out
+left_by (Err a) stream out = out
+
+pub record WrittenAs (list d : List ℕ) (x : Extent) (item : Option Extent) (later : Result (Unit {0}) Answer) (out : List ℕ) (r : Result ℕ Answer) (after : List ℕ) : Type 0 where
+  pub answers : (a : Answer) → later ≡ test_by a → r ≡ step_by (answer list d x item a (length out))
+  pub output : after ≡ left_by r (stream_in list d x item) out
+  pub short : IfOk r (λ n. n ≤ length d + length d)

@@ -6,8 +6,9 @@ ghost use Rattle.stream.specs.Inner.Keep.{keeps, keeps_header};
 use crate::tag_list;
 use dataset::header::ElementHeader;
 
-// All that are not barred (in an item), those of one tag, or none.
-#[derive(Clone, Copy)]
+// All that are not barred (in an item), those of one tag, or none: three cases of one question, so that an Option round one of them is no
+// plainer.
+#[derive(Clone, Copy, Debug, PartialEq, Eq)]
 pub(crate) enum Keep {
     Unbarred,
     Only(u32),
@@ -27,26 +28,12 @@ fn is_kept(keep: Keep, tag: u32) -> bool
 
 // Whether the element with this header is kept.
 pub(crate) fn keeps_header(keep: Keep, h: ElementHeader) -> bool
-    ensures { result ≡ keeps_header keep (element_case h) }
+    ensures { result ≡ keeps_header keep (element_case (Ok h)) }
 {
     match h {
-        ElementHeader::Refused {
-            number: _,
-            position: _,
-        } => false,
         ElementHeader::End(_) => false,
-        ElementHeader::Value {
-            tag,
-            vr: _,
-            start: _,
-            end: _,
-        } => is_kept(keep, tag),
-        ElementHeader::Sequence {
-            tag,
-            start: _,
-            end: _,
-            delimited: _,
-        } => is_kept(keep, tag),
-        ElementHeader::Fragments { tag, start: _ } => is_kept(keep, tag),
+        ElementHeader::Value { tag, .. }
+        | ElementHeader::Sequence { tag, .. }
+        | ElementHeader::Fragments { tag, .. } => is_kept(keep, tag),
     }
 }

@@ -9,14 +9,24 @@ use crate::keep::Keep;
 use crate::writer::OneWritten;
 use crate::{tag_list, writer};
 use answer::Answer;
+use answer::refusal::Refusal;
 use dataset::extent::Extent;
 
 // How far list and data set are merged: the index of the tag that is wanted next; and the first of 13, 14, 15, or the length of the
 // stream so far.
-#[derive(Clone, Copy)]
+#[derive(Clone, Copy, Debug, PartialEq, Eq)]
 pub(crate) struct Listed {
     pub index: usize,
-    pub answer: Answer,
+    pub so_far: Result<usize, Answer>,
+}
+
+// An element that the walk has passed: its tag, whether it is UN, whether it holds UN, and where its stream ends.
+#[derive(Clone, Copy, Debug, PartialEq, Eq)]
+pub(crate) struct Passed {
+    pub tag: u32,
+    pub is_un: bool,
+    pub holds_un: bool,
+    pub to: usize,
 }
 
 // The element that is wanted next.
@@ -34,90 +44,83 @@ fn next_listed(list: &[u8], index: usize) -> Keep
 fn wanted_behind(list: &[u8], keep: Keep, tag: u32, index: usize) -> Keep
     ensures { result ≡ wanted_behind keep tag (tags_in (drop (4 * index) list.now)) }
 {
-    let Keep::Only(wanted) = keep else {
-        return next_listed(list, index);
-    };
-    if tag < wanted {
-        return keep;
+    match keep {
+        Keep::Only(wanted) if tag < wanted => keep,
+        _ => next_listed(list, index),
     }
-    next_listed(list, index)
 }
 
 // A refusal: no tag is wanted any more.
-fn stopped(count: usize, number: u8, index: usize) -> Listed
-    ensures { result ≡ stopped_of count number index }
+fn stopped(count: usize, why: Refusal, index: usize) -> Listed
+    ensures { result ≡ stopped_of count why index }
 {
-    let answer = Answer::refused(number, index);
     Listed {
         index: count,
-        answer,
+        so_far: Err(why.at(index)),
     }
 }
 
-// What is found after one element more, by which element was wanted, its tag, whether it is UN, whether it holds UN, and where its
-// stream ends.
-fn merged(
-    list: &[u8],
-    keep: Keep,
-    before: Listed,
-    tag: u32,
-    is_un: bool,
-    holds_un: bool,
-    to: usize,
-) -> Listed
+// What is found after one element more, by which element was wanted.
+fn merged(list: &[u8], keep: Keep, before: Listed, passed: Passed) -> Listed
     requires { before.index ≤ length list.now / 4 }
-    ensures { result ≡ merged_of (length list.now / 4) keep before tag is_un holds_un to }
+    ensures { result ≡ merged_of (length list.now / 4) keep before passed }
 {
     let count = list.len() / 4;
     let index = before.index;
     let Keep::Only(wanted) = keep else {
         return before;
     };
-    if tag < wanted {
+    if passed.tag < wanted {
         return before;
     }
-    if wanted < tag {
-        return stopped(count, 13, index);
+    if wanted < passed.tag {
+        return stopped(count, Refusal::MissingElement, index);
     }
-    if is_un {
-        return stopped(count, 14, index);
+    if passed.is_un {
+        return stopped(count, Refusal::IsUn, index);
     }
-    if holds_un {
-        return stopped(count, 15, index);
+    if passed.holds_un {
+        return stopped(count, Refusal::HoldsUn, index);
     }
-    let answer = Answer::accepted(to);
     Listed {
         index: index + 1,
-        answer,
+        so_far: Ok(passed.to),
     }
 }
 
 // What is found at the end of the data set.
-fn ended(list: &[u8], before: Listed) -> Answer
+fn ended(list: &[u8], before: Listed) -> Result<usize, Answer>
     ensures { result ≡ ended_of (tags_in (drop (4 * before.index) list.now)) before }
 {
-    let index = before.index;
-    if list.len() / 4 <= index {
-        return before.answer;
+    if list.len() / 4 <= before.index {
+        return before.so_far;
     }
-    Answer::refused(13, index)
+    Err(Refusal::MissingElement.at(before.index))
 }
 
 // One walk over the list and the elements of a data set: the data set's first fault, wherever it stands; or the first of 13, 14, 15;
 // or the stream, which is written, and its length.
-pub(crate) fn walk_list(list: &[u8], d: &[u8], x: Extent, out: &mut [u8]) -> Answer
+pub(crate) fn walk_list(
+    list: &[u8],
+    d: &[u8],
+    x: Extent,
+    out: &mut [u8],
+) -> Result<usize, Answer>
     requires { (ascending_answer 0 0 (tags_in list.now) ≡ Spec.accepted 0) × Lies d.now x }
     ensures { ListWalk list.now d.now x result out.old out.new }
 {
     let mut at = x.from;
     let mut least: u64 = 0;
-    let answer = Answer::accepted(0);
-    let mut found = Listed { index: 0, answer };
+    let mut found = Listed {
+        index: 0,
+        so_far: Ok(0),
+    };
     let mut keep = next_listed(list, 0);
     loop {
-        let to = found.answer.length;
-        match writer::write_one(d, x.delimited, x.left, x.stop, at, least, keep, out, to) {
-            OneWritten::Refused(fault) => return fault,
+        let to = found.so_far.unwrap_or(0);
+        let rest = Extent { from: at, ..x };
+        let one = writer::write_one(d, rest, least, keep, out, to)?;
+        match one {
             OneWritten::End(_) => return ended(list, found),
             OneWritten::Element {
                 tag,
@@ -126,7 +129,13 @@ pub(crate) fn walk_list(list: &[u8], d: &[u8], x: Extent, out: &mut [u8]) -> Ans
                 next,
                 to: past,
             } => {
-                found = merged(list, keep, found, tag, is_un, holds_un, past);
+                let passed = Passed {
+                    tag,
+                    is_un,
+                    holds_un,
+                    to: past,
+                };
+                found = merged(list, keep, found, passed);
                 keep = wanted_behind(list, keep, tag, found.index);
                 at = next;
                 least = tag as u64 + 1;

@@ -8,6 +8,7 @@ ghost use Rattle.stream.specs.Inner.Own.{OwnWalk, own_keep};
 use crate::keep::Keep;
 use crate::writer::{OneWritten, Written};
 use crate::{tag_list, writer};
+use answer::Answer;
 use dataset::extent::Extent;
 use dataset::tags;
 
@@ -15,16 +16,20 @@ use dataset::tags;
 fn is_named(tag: u32) -> bool
     ensures { result ≡ named tag }
 {
-    (tag == tags::CERTIFICATE_OF_SIGNER)
-        | ((tag == tags::SIGNATURE_VALUE)
-            | ((tag == tags::CERTIFIED_TIMESTAMP_TYPE) | (tag == tags::CERTIFIED_TIMESTAMP)))
+    matches!(
+        tag,
+        tags::CERTIFICATE_OF_SIGNER
+            | tags::SIGNATURE_VALUE
+            | tags::CERTIFIED_TIMESTAMP_TYPE
+            | tags::CERTIFIED_TIMESTAMP
+    )
 }
 
 // Whether an element is left out, by its tag, whether it is UN and whether it holds UN.
 fn is_left_out(tag: u32, is_un: bool, holds_un: bool) -> bool
     ensures { result ≡ (named tag || (barred tag || (is_un || holds_un))) }
 {
-    is_named(tag) | (tag_list::is_barred(tag) | (is_un | holds_un))
+    is_named(tag) || tag_list::is_barred(tag) || is_un || holds_un
 }
 
 // What the writing walk keeps of the element that the first walk saw.
@@ -32,14 +37,12 @@ fn own_keep(seen: OneWritten) -> Keep
     ensures { result ≡ own_keep seen }
 {
     match seen {
-        OneWritten::Refused(_) => Keep::Nothing,
         OneWritten::End(_) => Keep::Nothing,
         OneWritten::Element {
             tag,
             is_un,
             holds_un,
-            next: _,
-            to: _,
+            ..
         } => {
             if is_left_out(tag, is_un, holds_un) {
                 return Keep::Nothing;
@@ -51,7 +54,7 @@ fn own_keep(seen: OneWritten) -> Keep
 
 // Writes the signature item's own elements, from `onto` on. Each is walked over before it is written: only then it is known whether UN
 // stands in it.
-pub(crate) fn write_own(d: &[u8], x: Extent, out: &mut [u8], onto: usize) -> Written
+pub(crate) fn write_own(d: &[u8], x: Extent, out: &mut [u8], onto: usize) -> Result<Written, Answer>
     requires { Lies d.now x × (onto ≤ x.from + length d.now) }
     ensures { OwnWalk d.now x onto result out.old out.new }
 {
@@ -59,32 +62,19 @@ pub(crate) fn write_own(d: &[u8], x: Extent, out: &mut [u8], onto: usize) -> Wri
     let mut least: u64 = 0;
     let mut to = onto;
     loop {
-        let mut nothing = [0u8; 0];
-        let seen = writer::write_one(
-            d,
-            x.delimited,
-            x.left,
-            x.stop,
-            at,
-            least,
-            Keep::Nothing,
-            &mut nothing,
-            0,
-        );
-        let keep = own_keep(seen);
-        match writer::write_one(d, x.delimited, x.left, x.stop, at, least, keep, out, to) {
-            OneWritten::Refused(fault) => return Written::Refused(fault),
-            OneWritten::End(next) => return Written::Past {
+        let rest = Extent { from: at, ..x };
+        let seen = writer::write_one(d, rest, least, Keep::Nothing, &mut [], 0)?;
+        match writer::write_one(d, rest, least, own_keep(seen), out, to)? {
+            OneWritten::End(next) => return Ok(Written {
                 holds_un: false,
                 next,
                 to,
-            },
+            }),
             OneWritten::Element {
                 tag,
-                is_un: _,
-                holds_un: _,
                 next,
                 to: past,
+                ..
             } => {
                 at = next;
                 least = tag as u64 + 1;

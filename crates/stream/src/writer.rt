@@ -4,6 +4,7 @@ ghost use Rattle.std.specs.Prelude.{◌≡◌, false, ◌++◌, ◌+◌, ◌<◌
 ghost use Rattle.std.proofs.lemmas.List.Edits.{sets};
 ghost use Rattle.slices.specs.Lists.{between};
 ghost use Rattle.dataset.specs.Header.{element_case};
+ghost use Rattle.dataset.specs.Place.{Lies};
 ghost use Rattle.dataset.specs.Vr.{UN};
 ghost use Rattle.stream.specs.Stream.{item_tag_bytes};
 ghost use Rattle.stream.specs.Inner.Writer.{nested_written, with_offset, HeaderAt, FragmentsWalk, ElementWalk, OneWalk, ElementsWalk, ItemsWalk};
@@ -12,27 +13,22 @@ ghost use Rattle.stream.specs.declared.writer.OneWritten.TheVariants as one;
 use crate::keep::Keep;
 use crate::{keep, output};
 use answer::Answer;
+use dataset::extent::{Extent, OpenedItem};
 use dataset::header::{ElementHeader, ItemHeader};
-use dataset::{header, reading, vr};
+use dataset::{extent, header, vr};
 
-// What is read in the place of elements, items or fragments.
-#[derive(Clone, Copy)]
-pub(crate) enum Written {
-    // the first fault
-    Refused(Answer),
-    // whether they hold UN, what follows at next in the data set, and at `to` in the stream
-    Past {
-        holds_un: bool,
-        next: usize,
-        to: usize,
-    },
+// What is read in the place of elements, items or fragments: whether they hold UN, what follows at next in the data set, and at `to` in
+// the stream.
+#[derive(Clone, Copy, Debug, PartialEq, Eq)]
+pub(crate) struct Written {
+    pub holds_un: bool,
+    pub next: usize,
+    pub to: usize,
 }
 
 // What is read in an element's place.
-#[derive(Clone, Copy)]
+#[derive(Clone, Copy, Debug, PartialEq, Eq)]
 pub(crate) enum OneWritten {
-    // the first fault
-    Refused(Answer),
     // the data set ends here; what follows it is at this offset
     End(usize),
     // an element: whether it is UN, whether it holds UN, what follows at next in the data set, and at `to` in the stream
@@ -58,19 +54,16 @@ fn value_written(tag: u32, vr: u16, next: usize, to: usize) -> OneWritten
     }
 }
 
-// An element that holds items or fragments, by what the walk over these answers.
+// An element that holds items or fragments, by what the walk over these gives.
 fn nested_written(tag: u32, inside: Written) -> OneWritten
     ensures { result ≡ nested_written tag inside }
 {
-    match inside {
-        Written::Refused(fault) => OneWritten::Refused(fault),
-        Written::Past { holds_un, next, to } => OneWritten::Element {
-            tag,
-            is_un: false,
-            holds_un,
-            next,
-            to,
-        },
+    OneWritten::Element {
+        tag,
+        is_un: false,
+        holds_un: inside.holds_un,
+        next: inside.next,
+        to: inside.to,
     }
 }
 
@@ -79,14 +72,13 @@ fn with_offset(one: OneWritten, to: usize) -> OneWritten
     ensures { result ≡ with_offset one to }
 {
     match one {
-        OneWritten::Refused(fault) => OneWritten::Refused(fault),
-        OneWritten::End(next) => OneWritten::End(next),
+        OneWritten::End(_) => one,
         OneWritten::Element {
             tag,
             is_un,
             holds_un,
             next,
-            to: _,
+            ..
         } => OneWritten::Element {
             tag,
             is_un,
@@ -106,39 +98,29 @@ fn write_fragment(d: &[u8], start: usize, end: usize, out: &mut [u8], to: usize)
     output::copy(d, start, end, out, to + 4);
 }
 
-// Writes the fragments from `from` on, and the sequence delimiter, from `onto` on.
-fn write_fragments(
-    d: &[u8],
-    left: u32,
-    stop: usize,
-    from: usize,
-    out: &mut [u8],
-    onto: usize,
-) -> Written
-    requires { (onto + 4 ≤ from + length d.now) × (from ≤ stop) × (stop ≤ length d.now) }
-    ensures { FragmentsWalk d.now left stop from onto result out.old out.new }
+// Writes the fragments in x, to their delimiter, and the sequence delimiter, from `onto` on.
+fn write_fragments(d: &[u8], x: Extent, out: &mut [u8], onto: usize) -> Result<Written, Answer>
+    requires { (onto + 4 ≤ x.from + length d.now) × Lies d.now x }
+    ensures { FragmentsWalk d.now x.left x.stop x.from onto result out.old out.new }
 {
-    let mut at = from;
+    let mut at = x.from;
     let mut to = onto;
     loop {
-        match header::item_header(d, false, true, stop, at) {
-            ItemHeader::Refused { number, position } => return Written::Refused(header::fault(
-                number, position,
-            )),
+        let rest = Extent {
+            delimited: true,
+            from: at,
+            ..x
+        };
+        match header::item_header(d, false, rest)? {
             ItemHeader::End(next) => {
                 output::put_sequence_delimiter(out, to);
-                let close = to + 4;
-                return Written::Past {
+                return Ok(Written {
                     holds_un: false,
                     next,
-                    to: close,
-                };
+                    to: to + 4,
+                });
             }
-            ItemHeader::Item {
-                start,
-                end,
-                delimited: _,
-            } => {
+            ItemHeader::Item { start, end, .. } => {
                 write_fragment(d, start, end, out, to);
                 to = to + 4 + (end - start);
                 at = end;
@@ -147,33 +129,24 @@ fn write_fragments(
     }
 }
 
-// Writes the element at `at`, whose header is h.
+// Writes the element at x.from, whose header is h.
 #[cycle(write_element_write_elements_write_items_write_one)]
 fn write_element(
     d: &[u8],
-    left: u32,
-    stop: usize,
-    at: usize,
+    x: Extent,
     h: ElementHeader,
     out: &mut [u8],
     to: usize,
-) -> OneWritten
-    requires { HeaderAt d.now left stop at (element_case h) × (to ≤ at + length d.now) × (at ≤ stop) × (stop ≤ length d.now) }
-    ensures { ElementWalk d.now left stop at (element_case h) to result out.old out.new }
+) -> Result<OneWritten, Answer>
+    requires { HeaderAt d.now x.left x.stop x.from (element_case (Ok h)) × (to ≤ x.from + length d.now) × Lies d.now x }
+    ensures { ElementWalk d.now x.left x.stop x.from (element_case (Ok h)) to result out.old out.new }
 {
+    let at = x.from;
     match h {
-        ElementHeader::Refused { number, position } => OneWritten::Refused(header::fault(
-            number, position,
-        )),
-        ElementHeader::End(next) => OneWritten::End(next),
-        ElementHeader::Value {
-            tag,
-            vr,
-            start: _,
-            end,
-        } => {
+        ElementHeader::End(next) => Ok(OneWritten::End(next)),
+        ElementHeader::Value { tag, vr, end, .. } => {
             output::copy(d, at, end, out, to);
-            value_written(tag, vr, end, to + (end - at))
+            Ok(value_written(tag, vr, end, to + (end - at)))
         }
         ElementHeader::Sequence {
             tag,
@@ -182,78 +155,62 @@ fn write_element(
             delimited,
         } => {
             output::copy(d, at, at + 8, out, to);
-            let items = write_items(d, delimited, left, end, start, out, to + 8);
-            nested_written(tag, items)
+            let inside = Extent {
+                delimited,
+                left: x.left,
+                stop: end,
+                from: start,
+            };
+            let items = write_items(d, inside, out, to + 8)?;
+            Ok(nested_written(tag, items))
         }
         ElementHeader::Fragments { tag, start } => {
             output::copy(d, at, at + 8, out, to);
-            let fragments = write_fragments(d, left, stop, start, out, to + 8);
-            nested_written(tag, fragments)
+            let fragments = write_fragments(d, Extent { from: start, ..x }, out, to + 8)?;
+            Ok(nested_written(tag, fragments))
         }
     }
 }
 
-// Writes what stands at `at` in an element's place, if it is kept, from `to` on. Other parameters as of header::header. An element that is
+// Writes what stands at x.from in an element's place, if it is kept, from `to` on; parameters as of header::header. An element that is
 // not kept is walked over all the same, for its faults and for UN inside it.
 #[cycle(write_element_write_elements_write_items_write_one)]
 pub(crate) fn write_one(
     d: &[u8],
-    delimited: bool,
-    left: u32,
-    stop: usize,
-    at: usize,
+    x: Extent,
     least: u64,
     keep: Keep,
     out: &mut [u8],
     to: usize,
-) -> OneWritten
-    requires { (to ≤ at + length d.now) × (at ≤ stop) × (stop ≤ length d.now) }
-    ensures { OneWalk keep d.now delimited left stop at least to result out.old out.new }
+) -> Result<OneWritten, Answer>
+    requires { (to ≤ x.from + length d.now) × Lies d.now x }
+    ensures { OneWalk keep d.now x.delimited x.left x.stop x.from least to result out.old out.new }
 {
-    let h = header::header(d, delimited, left, stop, at, least);
+    let h = header::header(d, x, least)?;
     if keep::keeps_header(keep, h) {
-        return write_element(d, left, stop, at, h, out, to);
+        return write_element(d, x, h, out, to);
     }
-    let ElementHeader::Value {
-        tag,
-        vr,
-        start: _,
-        end,
-    } = h
-    else {
-        let mut nothing = [0u8; 0];
-        let one = write_element(d, left, stop, at, h, &mut nothing, 0);
-        return with_offset(one, to);
-    };
-    value_written(tag, vr, end, to)
+    let one = write_element(d, x, h, &mut [], 0)?;
+    Ok(with_offset(one, to))
 }
 
 // Writes the elements of an item that are not barred.
 #[cycle(write_element_write_elements_write_items_write_one)]
-fn write_elements(
-    d: &[u8],
-    delimited: bool,
-    left: u32,
-    stop: usize,
-    from: usize,
-    out: &mut [u8],
-    onto: usize,
-) -> Written
-    requires { (onto ≤ from + length d.now) × (from ≤ stop) × (stop ≤ length d.now) }
-    ensures { ElementsWalk d.now delimited left stop from onto result out.old out.new }
+fn write_elements(d: &[u8], x: Extent, out: &mut [u8], onto: usize) -> Result<Written, Answer>
+    requires { (onto ≤ x.from + length d.now) × Lies d.now x }
+    ensures { ElementsWalk d.now x onto result out.old out.new }
 {
-    let mut at = from;
+    let mut at = x.from;
     let mut least: u64 = 0;
     let mut found = false;
     let mut to = onto;
     loop {
-        match write_one(d, delimited, left, stop, at, least, Keep::Unbarred, out, to) {
-            OneWritten::Refused(fault) => return Written::Refused(fault),
-            OneWritten::End(next) => return Written::Past {
+        match write_one(d, Extent { from: at, ..x }, least, Keep::Unbarred, out, to)? {
+            OneWritten::End(next) => return Ok(Written {
                 holds_un: found,
                 next,
                 to,
-            },
+            }),
             OneWritten::Element {
                 tag,
                 is_un,
@@ -261,7 +218,7 @@ fn write_elements(
                 next,
                 to: past,
             } => {
-                found = found | (is_un | holds_un);
+                found |= is_un | holds_un;
                 at = next;
                 least = tag as u64 + 1;
                 to = past;
@@ -272,53 +229,29 @@ fn write_elements(
 
 // Writes the items of a sequence, and the sequence delimiter.
 #[cycle(write_element_write_elements_write_items_write_one)]
-fn write_items(
-    d: &[u8],
-    delimited: bool,
-    left: u32,
-    stop: usize,
-    from: usize,
-    out: &mut [u8],
-    onto: usize,
-) -> Written
-    requires { (0 < left) × (onto + 4 ≤ from + length d.now) × (from ≤ stop) × (stop ≤ length d.now) }
-    ensures { ItemsWalk d.now delimited left stop from onto result out.old out.new }
+fn write_items(d: &[u8], x: Extent, out: &mut [u8], onto: usize) -> Result<Written, Answer>
+    requires { (0 < x.left) × (onto + 4 ≤ x.from + length d.now) × Lies d.now x }
+    ensures { ItemsWalk d.now x onto result out.old out.new }
 {
-    let mut at = from;
+    let mut at = x.from;
     let mut found = false;
     let mut to = onto;
     loop {
-        match header::item_header(d, true, delimited, stop, at) {
-            ItemHeader::Refused { number, position } => return Written::Refused(header::fault(
-                number, position,
-            )),
-            ItemHeader::End(next) => {
+        match extent::open_item(d, x, at)? {
+            OpenedItem::End(next) => {
                 output::put_sequence_delimiter(out, to);
-                let close = to + 4;
-                return Written::Past {
+                return Ok(Written {
                     holds_un: found,
                     next,
-                    to: close,
-                };
+                    to: to + 4,
+                });
             }
-            ItemHeader::Item {
-                start,
-                end,
-                delimited: inner,
-            } => {
+            OpenedItem::Item(inside) => {
                 output::put_item_tag(out, to);
-                match write_elements(d, inner, reading::deeper(left), end, start, out, to + 4) {
-                    Written::Refused(fault) => return Written::Refused(fault),
-                    Written::Past {
-                        holds_un,
-                        next,
-                        to: past,
-                    } => {
-                        found = found | holds_un;
-                        at = next;
-                        to = past;
-                    }
-                }
+                let item = write_elements(d, inside, out, to + 4)?;
+                found |= item.holds_un;
+                at = item.next;
+                to = item.to;
             }
         }
     }

@@ -1,2 +1,1 @@
 pub mod FindItemLoop
-pub mod MacIdTests

@@ -1,113 +1,123 @@
--- Places: the values and the items that stand in them, and what `seek` and `find_item_under` say of them. Assumes nothing.
+-- Places: the values and the items that stand in them, and what `value_of`, `mac_id` and `find_item_under` say of them. Assumes nothing.
 use Rattle.std.proofs.Common.{if◌then◌else◌}
+use Rattle.std.specs.Prelude.{Result, Ok, Err, None, Some}
+use Rattle.std.specs.Prelude as code
+use Rattle.std.specs.Borrow.{Bor}
+use Rattle.std.specs.Option.{MatchOption, ok_or}
 use borrow.Author.Tests.{eq-eqb, ne_eqb}
+use Rattle.std.proofs.lemmas.Bool.{eqb-true}
 use Prim.Native.Nat.{ℕ, ◌≤◌, ◌<◌, ◌-◌}
-use mathlib.Core.Path.{◌≡◌, refl, ap}
+use mathlib.Core.Path.{◌≡◌, refl, sym, ap, ◌∙◌}
+use mathlib.Core.Bool.{Bool, true, false}
 use mathlib.Core.List.{List}
 use mathlib.Core.Option.{Option, some}
 use mathlib.Core.Option as Opt
 use native.Mathlib.Omega.{arith}
 use lib.Dec.{eqb}
 use lib.ListN.{length, take, drop}
-use Rattle.slices.specs.Lists.{between}
+use Rattle.answer.specs.declared.Answer.{Answer}
+use Rattle.slices.specs.Lists.{between, same_bytes}
 use Rattle.dataset.specs.Tree.{Element, Elements}
-use Rattle.dataset.specs.Reading.{Reading, fault, read, answer_of}
 use Rattle.dataset.specs.Lookup.{element_of}
-use Rattle.selection.specs.Selection.{items_of, value_of, item_where}
-use Rattle.dataset.specs.Extent.{elements_in, items_in}
-use Rattle.dataset.specs.Place.{Lies, Placed, SoughtAs, SoughtIn}
-use Rattle.dataset.specs.Inner.Place.{PlaceLies, Located}
-use Rattle.selection.specs.Inner.Selection.{has_key, FoundItemAs, FoundItemIn, FoundItemUnder, Tests}
+use Rattle.dataset.specs.Tags.{mac_id_number}
+use Rattle.selection.specs.Selection.{items_of, value_of, item_where, mac_id_of, is_id}
+use Rattle.dataset.specs.Extent.{items_in}
+use Rattle.dataset.specs.Place.{Lies, Placed}
+use Rattle.dataset.specs.Inner.Place.{PlaceLies}
+use Rattle.selection.specs.Inner.Selection.{bytes_of, ValueAt, MacIdAt, has_key, TestsKey, FoundItemAs, FoundItemIn, FoundItemUnder}
 use Rattle.dataset.specs.declared.extent.Extent.{Extent}
 use Rattle.dataset.specs.declared.seek.Place.{Place}
 use Rattle.dataset.specs.declared.seek.Place.TheVariants as place
-use Rattle.dataset.specs.declared.seek.Sought.{Sought}
-use Rattle.dataset.specs.declared.seek.Sought.TheVariants as sought
 use Rattle.selection.specs.declared.items.ItemKey.{ItemKey}
+use Rattle.selection.specs.declared.items.ItemKey.TheVariants as key
 use Rattle.selection.specs.declared.items.FoundItem.{FoundItem}
-use Rattle.selection.specs.declared.items.FoundItem.TheVariants as found
-use Rattle.dataset.proofs.Laws.Extent.Outside.{read-lies}
-use Rattle.dataset.proofs.Laws.Seek.Places.{placed-lies, sought-past}
 
 -- cases that cannot be
 pub never : {A : Type 0} → ◌≡◌ {A = ℕ} 0 1 → A
 never e = absurd (omega arith)
 
+-- ---- what is needed next, or a refusal
+module _ {T : Type 0} (o : code.Option T) (a : Answer) (r : Result T Answer) (e : r ≡ ok_or o a) where
+  pub needed : (x : T) → r ≡ Ok x → o ≡ Some x
+  needed x q = go o (sym e ∙ q)
+    where
+      go : (o : code.Option T) → ok_or o a ≡ Ok x → o ≡ Some x
+      go None h = never (cc)
+      go (Some y) h = let k : y ≡ x = cc in ap Some k
+
+  pub missing : (f : Answer) → r ≡ Err f → (o ≡ None) × (f ≡ a)
+  missing f q = go o (sym e ∙ q)
+    where
+      go : (o : code.Option T) → ok_or o a ≡ Err f → (o ≡ None) × (f ≡ a)
+      go None h = (refl, cc)
+      go (Some y) h = never (cc)
+
 -- ---- the value in a place
 
--- what the `else` of a `let .. else` for a value has of the place
-abbrev pub NoValue : Place → Type 0
-NoValue p = (vr start end : ℕ) → p ≡ place.Value vr start end → ⊥
+-- no value of this VR stands there
+abbrev pub NoValueOf : (want : ℕ) → Place → Type 0
+NoValueOf want p = (start end : ℕ) → p ≡ place.Value want start end → ⊥
 
-module _ (d : List ℕ) (p : Place) where
-  pub no_value : (want : ℕ) (o : Option Element) → NoValue p → Placed d o p → value_of want o d ≡ Opt.none
+module _ (want : ℕ) (d : List ℕ) (p : Place) where
+  other_value : (here start end : ℕ) (t : Bool) → eqb here want ≡ t → NoValueOf want p → p ≡ place.Value here start end
+      → (if t then some (between d start end) else Opt.none) ≡ Opt.none
+  other_value here start end true e h q = let k : here ≡ want = eqb-true here want e in absurd (h start end (rw k at q))
+  other_value here start end false e h q = refl
+
+  pub no_value : (o : Option Element) → NoValueOf want p → Placed d o p → value_of want o d ≡ Opt.none
   unfolding value_of
-  no_value want Opt.none h q = refl
-  no_value want (some (Element.value at tag vr span)) h q = absurd (h vr span.start span.end q.0)
-  no_value want (some (Element.sequence at tag span items)) h q = refl
-  no_value want (some (Element.fragments at tag span parts)) h q = refl
+  no_value Opt.none h q = refl
+  no_value (some (Element.value at tag here span)) h q = other_value here span.start span.end (eqb here want) refl h q.0
+  no_value (some (Element.sequence at tag span items)) h q = refl
+  no_value (some (Element.fragments at tag span parts)) h q = refl
 
-  module _ (vr start end : ℕ) (is : p ≡ place.Value vr start end) where
+  pub no-value-at : ((vr start end : ℕ) → p ≡ place.Value vr start end → ⊥) → ValueAt want d p None
+  no-value-at h = record { says = λ o q. sym (no_value o (h want) q) }
+
+  module _ (start end : ℕ) (is : p ≡ place.Value want start end) where
     pub value-order : PlaceLies d p → start ≤ end
     value-order l = (rw is at l).0
 
     pub value-inside : PlaceLies d p → end ≤ length d
     value-inside l = (rw is at l).1
 
-    pub value-at : (want : ℕ) (o : Option Element) → Placed d o p → value_of want o d ≡ (if eqb vr want then some (between d start end) else Opt.none)
+    pub value-in : (o : Option Element) → Placed d o p → value_of want o d ≡ some (between d start end)
     unfolding value_of
-    value-at want Opt.none q = never (cc)
-    value-at want (some (Element.value at tag here span)) q =
-        let a : here ≡ vr = cc q.0 in
+    value-in Opt.none q = never (cc)
+    value-in (some (Element.value at tag here span)) q =
+        let a : here ≡ want = cc q.0 in
         let b : span.start ≡ start = cc q.0 in
         let e : span.end ≡ end = cc q.0 in
-        rw (a, b, e)
-    value-at want (some (Element.sequence at tag span items)) q = never (cc q.1)
-    value-at want (some (Element.fragments at tag span parts)) q = never (cc)
+        rw (eq-eqb here want a, b, e)
+    value-in (some (Element.sequence at tag span items)) q = never (cc q.1)
+    value-in (some (Element.fragments at tag span parts)) q = never (cc)
 
--- ---- a test of the value in a place
-module _ (A : Type 0) (want : ℕ) (test : Option (List ℕ) → A) (d : List ℕ) (p : Place) (r : A) where
-  pub test-none : NoValue p → r ≡ test Opt.none → Tests A want test d p r
-  test-none h w = record { says = λ o q. rw (no_value d p want o h q) w }
+  module _ (here start end : ℕ) (is : p ≡ place.Value here start end) where
+    pub other-at : (here ≡ want → ⊥) → ValueAt want d p None
+    other-at h = record { says = λ o q. sym (no_value o (λ s e k. h (cc)) q) }
 
-  module _ (vr start end : ℕ) (is : p ≡ place.Value vr start end) where
-    pub test-other : (vr ≡ want → ⊥) → r ≡ test Opt.none → Tests A want test d p r
-    test-other h w = record { says = λ o q. rw (value-at d p vr start end is want o q, ne_eqb vr want h) w }
-
-    pub test-value : vr ≡ want → r ≡ test (some (take (end - start) (drop start d))) → Tests A want test d p r
+    pub value-at : here ≡ want → (r : Bor (List ℕ)) → r.now ≡ take (end - start) (drop start d) → ValueAt want d p (Some r)
     unfolding between
-    test-value h w = record { says = λ o q. rw (value-at d p vr start end is want o q, eq-eqb vr want h) w }
+    value-at h r w = let k : p ≡ place.Value want start end = cc in record { says = λ o q. rw (value-in start end k o q, w) }
 
--- ---- where an element stands
-pub place-lies : (d : List ℕ) (p : Place) → Located d p → PlaceLies d p
-place-lies d p s = placed-lies d s.element p s.placed
+-- what follows of what is said of bytes, where there are any
+pub matched : (o : code.Option (Bor (List ℕ))) (P : Type 0) (Q R : Bor (List ℕ) → Type 0) → MatchOption o P Q → ((x : Bor (List ℕ)) → Q x → R x) → MatchOption o P R
+matched None P Q R h f = h
+matched (Some x) P Q R h f = f x h
 
--- what `seek` found in a data set whose elements are es
-module _ (d : List ℕ) (tag tag' : ℕ) (es : Elements) (n : ℕ) (r : Sought) (k : SoughtAs d tag tag' es n r) (first second : Place) (next : ℕ)
-    (is : r ≡ sought.Past first second next) where
-  pub placed_first : Placed d (element_of tag es) first
-  placed_first = let e : k.first ≡ first = cc k.is in rw e at k.placed
+-- ---- the key of an item
+is-id : (m : code.Option (Bor (List ℕ))) (r : Bool) (w : List ℕ) → MatchOption m (r ≡ false) (λ x. r ≡ same_bytes x.now w) → r ≡ is_id w (bytes_of m)
+is-id None r w h = h
+is-id (Some x) r w h = h
 
-  pub placed-second : Placed d (element_of tag' es) second
-  placed-second = let e : k.second ≡ second = cc k.is in rw e at k.placed'
+module _ (d : List ℕ) (w : ItemKey) (index : ℕ) (p : Place) where
+  pub key-number : (number : ℕ) → w ≡ key.Number number → TestsKey d w index p (eqb index number)
+  key-number number e es q = rw e
 
-module _ (d : List ℕ) (tag tag' : ℕ) (x : Extent) (r : Sought) (s : SoughtIn d tag tag' (elements_in d x) r) (first second : Place) (next : ℕ)
-    (is : r ≡ sought.Past first second next) where
-  both : (a : Reading Elements) → SoughtIn d tag tag' a r → Located d first × Located d second
-  both (fault f) k = never (cc)
-  both (read es n) k = (
-    record { element = element_of tag es; placed = placed_first d tag tag' es n r k first second next is },
-    record { element = element_of tag' es; placed = placed-second d tag tag' es n r k first second next is },
-  )
-
-  pub sought-lies : Lies d x
-  sought-lies = let k = sought-past d tag tag' (elements_in d x) r first second next s is in read-lies d x (ap (λ (p : Reading Elements). (answer_of p).number) k.is)
-
-  pub first-stands : Located d first
-  first-stands = (both (elements_in d x) s).0
-
-  pub second-stands : Located d second
-  second-stands = (both (elements_in d x) s).1
+  pub key-id : (id : Bor (List ℕ)) → w ≡ key.MacId id → (m : code.Option (Bor (List ℕ))) → MacIdAt d p m
+      → (r : Bool) → MatchOption m (r ≡ false) (λ x. r ≡ same_bytes x.now id.now) → TestsKey d w index p r
+  unfolding mac_id_of
+  key-id id e m g r h es q = rw (e, ← g.says (element_of mac_id_number es) q) (is-id m r id.now h)
 
 -- ---- the item that is meant
 
@@ -116,10 +126,10 @@ abbrev pub NoItems : Place → Type 0
 NoItems p = (x : Extent) → p ≡ place.Items x → ⊥
 
 module _ (d : List ℕ) (p : Place) (w : ItemKey) where
-  pub item-none : NoItems p → FoundItemUnder d p w found.Absent
+  pub item-none : NoItems p → FoundItemUnder d p w None
   item-none h = record { says = by-element }
     where
-      by-element : (o : Option Element) → Placed d o p → FoundItemAs d (item_where (has_key d w) (items_of o)) found.Absent
+      by-element : (o : Option Element) → Placed d o p → FoundItemAs d (item_where (has_key d w) (items_of o)) None
       by-element Opt.none q = refl
       by-element (some (Element.value at tag vr span)) q = refl
       by-element (some (Element.sequence at tag span items)) q = absurd (h q.0 q.1)
@@ -132,7 +142,7 @@ module _ (d : List ℕ) (p : Place) (w : ItemKey) where
     pub items-level : PlaceLies d p → 0 < x.left
     items-level l = (rw is at l).1
 
-    pub item-found : (r : FoundItem) → FoundItemIn d w 0 (items_in d x) r → FoundItemUnder d p w r
+    pub item-found : (r : code.Option FoundItem) → FoundItemIn d w 0 (items_in d x) r → FoundItemUnder d p w r
     item-found r k = record { says = by-element }
       where
         by-element : (o : Option Element) → Placed d o p → FoundItemAs d (item_where (has_key d w) (items_of o)) r

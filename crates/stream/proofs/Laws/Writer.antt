@@ -6,4 +6,3 @@ pub mod WriteElement
 pub mod OneWalks
 pub mod StreamLength
 pub mod Walks
-pub mod WrittenArms

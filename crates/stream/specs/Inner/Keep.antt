@@ -13,7 +13,7 @@ keeps keep.Nothing tag = false
 
 -- by the header of an element; where there is no element nothing is kept
 abbrev pub keeps_header : Keep → ElementHeader → Bool
-keeps_header k (ElementHeader.refused number position) = false
+keeps_header k (ElementHeader.refused a) = false
 keeps_header k (ElementHeader.ends next) = false
 keeps_header k (ElementHeader.value tag vr start end) = keeps k tag
 keeps_header k (ElementHeader.sequence tag start end delimited) = keeps k tag

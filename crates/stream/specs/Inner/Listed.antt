@@ -1,9 +1,14 @@
 -- For inner contracts; no part of what a reader has to believe: the walk over list and data set.
 -- Assumes nothing.
-use Rattle.std.specs.Prelude.{ℕ, ◌+◌, ◌≤◌, ◌≡◌, Bool, List, [], ◌∷◌, ltb, length, if◌then◌else◌}
+use Rattle.std.specs.Prelude.{ℕ, ◌+◌, ◌≤◌, ◌≡◌, List, [], ◌∷◌, Result, Ok, Err, ltb, length, if◌then◌else◌}
+use Rattle.std.specs.Result.{IfOk}
 use Rattle.std.proofs.lemmas.List.Edits.{sets}
 use Rattle.answer.specs.declared.Answer.{Answer}
 use Rattle.answer.specs.Answer.{accepted, refused, ◌or_else◌}
+use Rattle.answer.specs.Refusal.{number_of}
+use Rattle.answer.specs.Step.{step_by}
+use Rattle.answer.specs.declared.refusal.Refusal.{Refusal}
+use Rattle.answer.specs.declared.refusal.Refusal.TheVariants as refusal
 use Rattle.dataset.specs.Tree.{Elements}
 use Rattle.dataset.specs.Reading.{Reading, fault, read}
 use Rattle.stream.specs.TagList.{tags_in}
@@ -12,6 +17,7 @@ use Rattle.stream.specs.Listed.{tags_answer}
 use Rattle.dataset.specs.Extent.{elements_in}
 use Rattle.dataset.specs.declared.extent.Extent.{Extent}
 use Rattle.stream.specs.declared.listed.Listed.{Listed}
+use Rattle.stream.specs.declared.listed.Passed.{Passed}
 use Rattle.stream.specs.declared.keep.Keep.{Keep}
 use Rattle.stream.specs.declared.keep.Keep.TheVariants as keep
 
@@ -27,10 +33,11 @@ ListedLeaves found index tags d (fault f) before after = Unit {0}
 ListedLeaves found index tags d (read es next) before after =
     (listed_answer found index tags d (read es next)).number ≡ 0 → after ≡ sets before found.length (listed_stream tags es d)
 
-pub record ListWalk (list d : List ℕ) (x : Extent) (r : Answer) (before after : List ℕ) : Type 0 where
-  pub answers : r ≡ listed_answer (accepted 0) 0 (tags_in list) d (elements_in d x)
+-- r is the step: the length of the stream, or the refusal
+pub record ListWalk (list d : List ℕ) (x : Extent) (r : Result ℕ Answer) (before after : List ℕ) : Type 0 where
+  pub answers : r ≡ step_by (listed_answer (accepted 0) 0 (tags_in list) d (elements_in d x))
   pub output : ListedLeaves (accepted 0) 0 (tags_in list) d (elements_in d x) before after
-  pub short : r.length ≤ length d
+  pub short : IfOk r (λ n. n ≤ length d)
 
 -- the element that is wanted next, by the tags that are left
 unfoldable pub next_listed : (tags : List ℕ) → Keep
@@ -44,21 +51,21 @@ wanted_behind (keep.Only wanted) tag tags = if ltb tag wanted then keep.Only wan
 wanted_behind keep.Nothing tag tags = next_listed tags
 
 -- a refusal: no tag of the `count` tags is wanted any more
-abbrev pub stopped_of : (count number index : ℕ) → Listed
-stopped_of count number index = record { index = count; answer = refused number index }
+abbrev pub stopped_of : (count : ℕ) (why : Refusal) (index : ℕ) → Listed
+stopped_of count why index = record { index = count; so_far = Err (refused (number_of why) index) }
 
 -- what is found after one element more, by which element was wanted
-unfoldable pub merged_of : (count : ℕ) → Keep → Listed → (tag : ℕ) (is_un holds : Bool) (to : ℕ) → Listed
-merged_of count keep.Unbarred s tag is_un holds to = s
-merged_of count (keep.Only wanted) s tag is_un holds to =
-    if ltb tag wanted then s else
-    if ltb wanted tag then stopped_of count 13 s.index else
-    if is_un then stopped_of count 14 s.index else
-    if holds then stopped_of count 15 s.index else
-    record { index = s.index + 1; answer = accepted to }
-merged_of count keep.Nothing s tag is_un holds to = s
+unfoldable pub merged_of : (count : ℕ) → Keep → Listed → Passed → Listed
+merged_of count keep.Unbarred s e = s
+merged_of count (keep.Only wanted) s e =
+    if ltb e.tag wanted then s else
+    if ltb wanted e.tag then stopped_of count refusal.MissingElement s.index else
+    if e.is_un then stopped_of count refusal.IsUn s.index else
+    if e.holds_un then stopped_of count refusal.HoldsUn s.index else
+    record { index = s.index + 1; so_far = Ok e.to }
+merged_of count keep.Nothing s e = s
 
 -- what is found at the end of the data set
-unfoldable pub ended_of : (tags : List ℕ) → Listed → Answer
-ended_of [] s = s.answer
-ended_of (wanted ∷ tags) s = refused 13 s.index
+unfoldable pub ended_of : (tags : List ℕ) → Listed → Result ℕ Answer
+ended_of [] s = s.so_far
+ended_of (wanted ∷ tags) s = Err (refused 13 s.index)

@@ -1,6 +1,7 @@
 -- For inner contracts; no part of what a reader has to believe: the walk over the signature item's own elements.
 -- Assumes nothing.
-use Rattle.std.specs.Prelude.{ℕ, ◌||◌, List, if◌then◌else◌}
+use Rattle.std.specs.Prelude.{ℕ, ◌||◌, List, Result, if◌then◌else◌}
+use Rattle.answer.specs.declared.Answer.{Answer}
 use Rattle.dataset.specs.Tree.{Elements}
 use Rattle.dataset.specs.Extent.{elements_in}
 use Rattle.stream.specs.Inner.Writer.{walked, holds_none, Walk}
@@ -20,10 +21,9 @@ own_stream es d = elements_stream (own es) d
 
 -- the element that is kept, by what was read in its place
 unfoldable pub own_keep : OneWritten → Keep
-own_keep (one.Refused f) = keep.Nothing
 own_keep (one.End next) = keep.Nothing
 own_keep (one.Element tag is_un holds next to) = if named tag || (barred tag || (is_un || holds)) then keep.Nothing else keep.Only tag
 
 -- the walk over the signature item's own elements
-abbrev pub OwnWalk : List ℕ → Extent → (to : ℕ) → Written → (before after : List ℕ) → Type 0
+abbrev pub OwnWalk : List ℕ → Extent → (to : ℕ) → Result Written Answer → (before after : List ℕ) → Type 0
 OwnWalk d x to r before after = Walk (walked holds_none own_stream) own_stream (elements_in d x) d to r before after

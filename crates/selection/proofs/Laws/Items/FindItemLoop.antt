@@ -1,6 +1,9 @@
 -- What one turn of the loop of `find_item` does, with the facts of the place as premises. Assumes nothing.
+use Rattle.std.specs.Prelude.{Result, Ok, Err, None, Some}
+use Rattle.std.specs.Prelude as code
+use Rattle.std.specs.Result.{result_ok}
 use Prim.Native.Nat.{ℕ, ◌+◌, ◌-◌, ◌≤◌, ◌<◌}
-use mathlib.Core.Path.{◌≡◌, refl, sym, ◌∙◌}
+use mathlib.Core.Path.{◌≡◌, refl, sym, ap, ◌∙◌}
 use mathlib.Core.Bool.{Bool, true, false}
 use mathlib.Core.List.{List}
 use native.Mathlib.Omega.{arith}
@@ -15,99 +18,98 @@ use Rattle.dataset.specs.Inner.Place.{PlaceLies}
 use Rattle.dataset.specs.declared.extent.Extent.{Extent}
 use Rattle.dataset.specs.declared.extent.OpenedItem.{OpenedItem}
 use Rattle.dataset.specs.declared.extent.OpenedItem.TheVariants as item
-use Rattle.dataset.specs.declared.seek.Place.{Place}
 use Rattle.dataset.specs.declared.seek.Sought.{Sought}
-use Rattle.dataset.specs.declared.seek.Sought.TheVariants as sought
 use Rattle.dataset.proofs.Laws.Extent.ItemsFrom.{items_from, items_refused, items-end, item-lies, items-are-one, item-past}
 use Rattle.dataset.proofs.Laws.Seek.Places.{IsSought, sought-past, sought-refused, placed-lies}
 use Rattle.selection.specs.Selection.{first_item}
 use Rattle.selection.specs.Inner.Selection.{has_key, TestsKey, ItemFound, FoundItemIn}
 use Rattle.selection.specs.declared.items.ItemKey.{ItemKey}
 use Rattle.selection.specs.declared.items.FoundItem.{FoundItem}
-use Rattle.selection.specs.declared.items.FoundItem.TheVariants as found
+use Rattle.selection.proofs.Laws.PlaceValues.{never}
+
+-- ---- what is known of a `Result` by its value, or by none
+pub value-of : {T : Type 0} (r : Result T Answer) (o : code.Option T) (x : T) → o ≡ result_ok r → o ≡ Some x → r ≡ Ok x
+value-of (Ok y) o x v h = let e : y ≡ x = cc in ap Ok e
+value-of (Err f) o x v h = never (cc)
+
+no-value : {T : Type 0} (r : Result T Answer) → result_ok r ≡ None → (f : Answer) × (r ≡ Err f)
+no-value (Ok y) h = never (cc)
+no-value (Err f) h = (f, refl)
 
 -- the items from `at` on, of which the first has the number `index`: what is chosen among them is chosen among all
 pub record FindItemLoop (d : List ℕ) (x : Extent) (w : ItemKey) (at index : ℕ) : Type 0 where
   pub inside : at ≤ x.stop
   pub few : index ≤ at
-  pub on : (z : FoundItem) → FoundItemIn d w index (items_from d x at) z → FoundItemIn d w 0 (items_in d x) z
+  pub on : (z : code.Option FoundItem) → FoundItemIn d w index (items_from d x at) z → FoundItemIn d w 0 (items_in d x) z
 
 pub find-item-start : (d : List ℕ) (x : Extent) (w : ItemKey) → Lies d x → FindItemLoop d x w x.from 0
 find-item-start d x w l = record { inside = l.order; few = omega arith; on = λ z h. h }
 
 -- ---- an item in front of what is left, by whether it is meant
-module _ (d : List ℕ) (w : ItemKey) (at index : ℕ) (es : Elements) (z : FoundItem) where
-  meant : (o : Reading Items) → has_key d w index es ≡ true → ItemFound d es z
-      → FoundItemIn d w index (o >>= λ (rest, after). read (Items.item at es rest) after) z
+module _ (d : List ℕ) (w : ItemKey) (at index : ℕ) (es : Elements) where
+  meant : (z : FoundItem) (o : Reading Items) → has_key d w index es ≡ true → ItemFound d es z
+      → FoundItemIn d w index (o >>= λ (rest, after). read (Items.item at es rest) after) (Some z)
   unfolding first_item
-  meant (fault f) t h = tt
-  meant (read rest n) t h = rw t h
+  meant z (fault f) t h = tt
+  meant z (read rest n) t h = rw t (z, refl, h)
 
-  passed : (o : Reading Items) → has_key d w index es ≡ false → FoundItemIn d w (index + 1) o z
+  passed : (z : code.Option FoundItem) (o : Reading Items) → has_key d w index es ≡ false → FoundItemIn d w (index + 1) o z
       → FoundItemIn d w index (o >>= λ (rest, after). read (Items.item at es rest) after) z
   unfolding first_item
-  passed (fault f) t h = tt
-  passed (read rest n) t h = rw t h
+  passed z (fault f) t h = tt
+  passed z (read rest n) t h = rw t h
 
 -- ---- a turn of the loop: r is what stands at `at`
-module _ (d : List ℕ) (x : Extent) (at : ℕ) (r : OpenedItem) (e : opened_case r ≡ opened_item d x at) (w : ItemKey) (index : ℕ) (i : FindItemLoop d x w at index) where
-  pub find-item-refused : (f : Answer) → r ≡ item.Refused f → FoundItemIn d w 0 (items_in d x) found.Absent
-  find-item-refused f q = i.on found.Absent (rw (items_refused d x at r e i.inside f q) tt)
+module _ (d : List ℕ) (x : Extent) (at : ℕ) (r : Result OpenedItem Answer) (e : opened_case r ≡ opened_item d x at) (w : ItemKey) (index : ℕ) (i : FindItemLoop d x w at index) where
+  pub find-item-refused : (o : code.Option OpenedItem) → o ≡ result_ok r → o ≡ None → FoundItemIn d w 0 (items_in d x) None
+  find-item-refused o v h = let f = no-value r (sym v ∙ h) in i.on None (rw (items_refused d x at r e i.inside f.0 f.1) tt)
 
-  pub find-item-end : (next : ℕ) → r ≡ item.End next → FoundItemIn d w 0 (items_in d x) found.Absent
+  pub find-item-end : (p : OpenedItem) → r ≡ Ok p → ((inside : Extent) → p ≡ item.Item inside → ⊥) → FoundItemIn d w 0 (items_in d x) None
   unfolding first_item
-  find-item-end next q = i.on found.Absent (rw (items-end d x at r e i.inside next q) refl)
+  find-item-end (item.End next) q h = i.on None (rw (items-end d x at r e i.inside next q) refl)
+  find-item-end (item.Item inside) q h = absurd (h inside refl)
 
   -- an item, and s is what is sought in it
-  module _ (inside : Extent) (q : r ≡ item.Item inside) (s : Sought) (k : SoughtIn d mac_id_number data_elements_signed (elements_in d inside) s) where
-    pub item_refused : (f : Answer) → s ≡ sought.Refused f → FoundItemIn d w 0 (items_in d x) found.Absent
-    item_refused f m =
-        i.on found.Absent
-        (rw (items-are-one d x at r e inside q i.inside, sought-refused d mac_id_number data_elements_signed (elements_in d inside) s f k m) tt)
+  module _ (inside : Extent) (q : r ≡ Ok (item.Item inside)) (s : Result Sought Answer) (k : SoughtIn d mac_id_number data_elements_signed (elements_in d inside) s) where
+    pub find-item-fault : (o : code.Option Sought) → o ≡ result_ok s → o ≡ None → FoundItemIn d w 0 (items_in d x) None
+    find-item-fault o v h =
+        let f = no-value s (sym v ∙ h) in
+        i.on None
+        (rw (items-are-one d x at r e inside q i.inside, sought-refused d mac_id_number data_elements_signed (elements_in d inside) s f.0 k f.1) tt)
 
-    module _ (id list : Place) (next : ℕ) (m : s ≡ sought.Past id list next) where
-      it : IsSought d mac_id_number data_elements_signed (elements_in d inside) id list next
-      it = sought-past d mac_id_number data_elements_signed (elements_in d inside) s id list next k m
+    module _ (z : Sought) (m : s ≡ Ok z) where
+      it : IsSought d mac_id_number data_elements_signed (elements_in d inside) z.first z.second z.next
+      it = sought-past d mac_id_number data_elements_signed (elements_in d inside) s z.first z.second z.next k m
 
-      pub id-lies : PlaceLies d id
-      id-lies = placed-lies d (element_of mac_id_number it.what) id it.placed
+      pub id-lies : PlaceLies d z.first
+      id-lies = placed-lies d (element_of mac_id_number it.what) z.first it.placed
 
-      items-then : items_from d x at ≡ (items_from d x next >>= λ (rest, after). read (Items.item at it.what rest) after)
+      items-then : items_from d x at ≡ (items_from d x z.next >>= λ (rest, after). read (Items.item at it.what rest) after)
       items-then = rw (items-are-one d x at r e inside q i.inside, it.is)
 
-      past : (at < next) × (next ≤ x.stop)
-      past = item-past d x at r e inside q it.what next it.is
+      past : (at < z.next) × (z.next ≤ x.stop)
+      past = item-past d x at r e inside q it.what z.next it.is
 
-      pub find-item-less : x.stop - next < x.stop - at
+      pub find-item-less : x.stop - z.next < x.stop - at
       find-item-less = let n = past in omega (arith, n)
 
-      module _ (b : Bool) (u : TestsKey d w index id b) where
-        pub find-item-found : b ≡ true → Lies d x → FoundItemIn d w 0 (items_in d x) (found.Item inside id list)
+      module _ (b : Bool) (u : TestsKey d w index z.first b) where
+        pub find-item-found : b ≡ true → Lies d x → FoundItemIn d w 0 (items_in d x) (Some (record { inside = inside; id = z.first; list = z.second }))
         find-item-found t l =
             let h = it in
-            i.on (found.Item inside id list)
+            i.on (Some (record { inside = inside; id = z.first; list = z.second }))
             (rw items-then
-            (meant d w at index h.what (found.Item inside id list) (items_from d x next)
+            (meant d w at index h.what (record { inside = inside; id = z.first; list = z.second }) (items_from d x z.next)
             (sym (u h.what h.placed) ∙ t)
-            record {
-              inside = inside;
-              id = id;
-              list = list;
-              is = refl;
-              lies = item-lies d x at r e inside q l.inside;
-              next = next;
-              reads = h.is;
-              placed = h.placed;
-              placed' = h.placed';
-            }))
+            record { lies = item-lies d x at r e inside q l.inside; next = z.next; reads = h.is; placed = h.placed; placed' = h.placed' }))
 
-        pub find-item-again : b ≡ false → FindItemLoop d x w next (index + 1)
+        pub find-item-again : b ≡ false → FindItemLoop d x w z.next (index + 1)
         find-item-again t =
             let h = it in
             let n = past in
             record {
               inside = n.1;
               few = omega (arith, i.few, n);
-              on = λ z y. i.on z (rw items-then (passed d w at index h.what z (items_from d x next)
+              on = λ o y. i.on o (rw items-then (passed d w at index h.what o (items_from d x z.next)
                   (sym (u h.what h.placed) ∙ t) y));
             }

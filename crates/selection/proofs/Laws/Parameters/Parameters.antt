@@ -1,11 +1,13 @@
 -- What 21 to 23 give, place by place of `select_parameters`, with the facts of the place as premises. Assumes nothing.
+use Rattle.std.specs.Prelude.{Result, Ok, Err, None, Some}
+use Rattle.std.specs.Prelude as code
+use Rattle.std.specs.Borrow.{Bor}
 use Prim.Native.Nat.{ℕ}
 use mathlib.Core.Path.{◌≡◌, refl, sym, ◌∙◌}
 use mathlib.Core.Bool.{Bool, true, false}
 use mathlib.Core.List.{List}
 use mathlib.Core.Option.{Option, some}
 use mathlib.Core.Option as Opt
-use borrow.Author.Tests.{eq-eqb, ne_eqb}
 use Rattle.answer.specs.declared.Answer.{Answer}
 use Rattle.answer.specs.Answer.{refused}
 use Rattle.dataset.specs.Vr.{AT, CS, UI}
@@ -16,21 +18,18 @@ use Rattle.selection.specs.Selection.{value_of, bad_transfer_syntax, algorithm_o
 use Rattle.dataset.specs.Tags.{mac_calculation_transfer_syntax_uid, mac_algorithm, data_elements_signed}
 use Rattle.selection.specs.Selection as spec
 use Rattle.dataset.specs.Extent.{elements_in}
-use Rattle.dataset.specs.Place.{Lies, SoughtAs, SoughtIn}
+use Rattle.dataset.specs.Place.{Lies, SoughtIn}
 use Rattle.dataset.specs.Inner.Place.{PlaceLies}
-use Rattle.selection.specs.Inner.Selection.{BadSyntax, found_case, AlgorithmOf, ParametersSelected}
+use Rattle.selection.specs.Inner.Selection.{bytes_of, ValueAt, named_case, ParametersSelected}
 use Rattle.selection.specs.Selected.{algorithm_case}
 use Rattle.dataset.specs.declared.extent.Extent.{Extent}
-use Rattle.dataset.specs.declared.seek.Place.{Place}
 use Rattle.dataset.specs.declared.seek.Place.TheVariants as place
 use Rattle.dataset.specs.declared.seek.Sought.{Sought}
-use Rattle.dataset.specs.declared.seek.Sought.TheVariants as sought
+use Rattle.selection.specs.declared.items.FoundItem.{FoundItem}
 use Rattle.selection.specs.declared.select.Algorithm.{Algorithm}
-use Rattle.selection.specs.declared.parameters.FoundAlgorithm.{FoundAlgorithm}
-use Rattle.selection.specs.declared.parameters.FoundAlgorithm.TheVariants as found_algorithm
-use Rattle.selection.specs.declared.select.Selection.{Selection}
-use Rattle.selection.specs.declared.select.Selection.TheVariants as selection
-use Rattle.selection.proofs.Laws.PlaceValues.{never, placed_first, placed-second, NoValue, no_value, value-order, value-inside, value-at}
+use Rattle.selection.specs.declared.select.Selected.{Selected}
+use Rattle.dataset.proofs.Laws.Seek.Places.{IsSought, sought-past, sought-refused, placed-lies}
+use Rattle.selection.proofs.Laws.PlaceValues.{never, NoValueOf, no_value, value-order, value-inside, value-in}
 
 -- the algorithm that the code has named
 record NamedBy (o : Option spec.Algorithm) (a : Algorithm) : Type 0 where
@@ -38,90 +37,102 @@ record NamedBy (o : Option spec.Algorithm) (a : Algorithm) : Type 0 where
   same : o ≡ some algorithm
   case : a ≡ algorithm_case algorithm
 
-not_named : (o : Option spec.Algorithm) → found_algorithm.Unknown ≡ found_case o → o ≡ Opt.none
+not_named : (o : Option spec.Algorithm) → None ≡ named_case o → o ≡ Opt.none
 not_named Opt.none e = refl
 not_named (some b) e = never (cc)
 
-named_by : (o : Option spec.Algorithm) (a : Algorithm) → found_algorithm.Named a ≡ found_case o → NamedBy o a
+named_by : (o : Option spec.Algorithm) (a : Algorithm) → Some a ≡ named_case o → NamedBy o a
 named_by Opt.none a e = never (cc)
 named_by (some b) a e = record { algorithm = b; same = refl; case = cc }
 
-module _ (uid d : List ℕ) (signed signature parameters : Extent) (list : Place) (f : Sought)
-    (s : SoughtIn d mac_calculation_transfer_syntax_uid mac_algorithm (elements_in d parameters) f) where
-  -- parameters whose elements are ps
-  module _ (ps : Elements) (m : ℕ) (y : elements_in d parameters ≡ read ps m) where
-    fields : SoughtAs d mac_calculation_transfer_syntax_uid mac_algorithm ps m f
-    fields = rw y at s
+module _ (uid d : List ℕ) (signed signature : Extent) (item : FoundItem) (f : Result Sought Answer)
+    (s : SoughtIn d mac_calculation_transfer_syntax_uid mac_algorithm (elements_in d item.inside) f) where
+  pub list-fault : (a : Answer) (r : Result Selected Answer) → f ≡ Err a → ParametersSelected uid d signed signature item r
+  list-fault a r is = record { says = λ es parts ps k n m u x y q. never (cc (y, sought-refused d _ _ (elements_in d item.inside) f a s is)) }
 
-    no-fault : (a : Answer) → f ≡ sought.Refused a → ◌≡◌ {A = ℕ} 0 1
-    no-fault a is = cc fields.is
+  module _ (z : Sought) (is : f ≡ Ok z) where
+    fields : IsSought d mac_calculation_transfer_syntax_uid mac_algorithm (elements_in d item.inside) z.first z.second z.next
+    fields = sought-past d _ _ (elements_in d item.inside) f z.first z.second z.next s is
 
-    module _ (first second : Place) (next : ℕ) (is : f ≡ sought.Past first second next) where
-      syntax-is : (b : Bool) → BadSyntax uid d first b → bad_transfer_syntax uid (value_of UI (element_of mac_calculation_transfer_syntax_uid ps) d) ≡ b
-      syntax-is b g = sym (g.says _ (placed_first d _ _ ps m f fields first second next is))
+    pub syntax-lies : PlaceLies d z.first
+    syntax-lies = placed-lies d (element_of mac_calculation_transfer_syntax_uid fields.what) z.first fields.placed
 
-      algorithm-is : (o : FoundAlgorithm) → AlgorithmOf d second o → o ≡ found_case (algorithm_of (value_of CS (element_of mac_algorithm ps) d))
-      algorithm-is o g = g.says _ (placed-second d _ _ ps m f fields first second next is)
+    pub algorithm-lies : PlaceLies d z.second
+    algorithm-lies = placed-lies d (element_of mac_algorithm fields.what) z.second fields.placed'
 
-  pub list-fault : (a : Answer) (r : Selection) → f ≡ sought.Refused a → ParametersSelected uid d signed signature parameters list r
-  list-fault a r is = record { says = λ es parts ps k n m u x y q. never (no-fault ps m y a is) }
+    -- parameters whose elements are ps
+    module _ (ps : Elements) (m : ℕ) (y : elements_in d item.inside ≡ read ps m) where
+      same : fields.what ≡ ps
+      same = let h = fields.is in cc
 
-  module _ (first second : Place) (next : ℕ) (is : f ≡ sought.Past first second next) (b : Bool) (g : BadSyntax uid d first b) where
-    pub list-syntax : (r : Selection) → b ≡ true → r ≡ selection.Refused (refused 21 0) → ParametersSelected uid d signed signature parameters list r
-    unfolding parameters_select
-    list-syntax r t w = record { says = λ es parts ps k n m u x y q. rw (syntax-is ps m y first second next is b g, t) w }
+      syntax-is : (v : code.Option (Bor (List ℕ))) → ValueAt UI d z.first v → value_of UI (element_of mac_calculation_transfer_syntax_uid ps) d ≡ bytes_of v
+      syntax-is v g = sym (g.says (element_of mac_calculation_transfer_syntax_uid ps) (rw same at fields.placed))
 
-    module _ (t : b ≡ false) (o : FoundAlgorithm) (h : AlgorithmOf d second o) where
-      pub list-algorithm : (r : Selection) → o ≡ found_algorithm.Unknown → r ≡ selection.Refused (refused 22 0) → ParametersSelected uid d signed signature parameters list r
+      algorithm-is : (v : code.Option (Bor (List ℕ))) → ValueAt CS d z.second v → value_of CS (element_of mac_algorithm ps) d ≡ bytes_of v
+      algorithm-is v g = sym (g.says (element_of mac_algorithm ps) (rw same at fields.placed'))
+
+    module _ (v : code.Option (Bor (List ℕ))) (g : ValueAt UI d z.first v) (b : Bool) (w : b ≡ bad_transfer_syntax uid (bytes_of v)) where
+      pub list-syntax : (a : Answer) → b ≡ true → a ≡ refused 21 0 → ParametersSelected uid d signed signature item (Err a)
       unfolding parameters_select
-      list-algorithm r v w =
-          record {
-            says = λ es parts ps k n m u x y q.
-                rw (syntax-is ps m y first second next is b g, t, not_named (algorithm_of (value_of CS (element_of mac_algorithm ps) d)) (sym v ∙ algorithm-is ps m y first second next is o h)) w;
+      list-syntax a t j = record { says = λ es parts ps k n m u x y q. rw (syntax-is ps m y v g, ← w, t, j) }
+
+      module _ (t : b ≡ false) (term : code.Option (Bor (List ℕ))) (g' : ValueAt CS d z.second term) (o : code.Option Algorithm)
+          (h : o ≡ named_case (algorithm_of (bytes_of term))) where
+        pub list-algorithm : (a : Answer) → o ≡ None → a ≡ refused 22 0 → ParametersSelected uid d signed signature item (Err a)
+        unfolding parameters_select
+        list-algorithm a c j = record {
+          says = λ es parts ps k n m u x y q.
+              rw (syntax-is ps m y v g, ← w, t, algorithm-is ps m y term g', not_named (algorithm_of (bytes_of term)) (sym c ∙ h), j);
+        }
+
+        module _ (a : Algorithm) (c : o ≡ Some a) where
+          named : NamedBy (algorithm_of (bytes_of term)) a
+          named = named_by (algorithm_of (bytes_of term)) a (sym c ∙ h)
+
+          -- what is left of the selection: 23
+          by-list : (x : spec.Algorithm) → algorithm_of (bytes_of term) ≡ some x → (es parts ps : Elements) (m : ℕ) → elements_in d item.inside ≡ read ps m
+              → parameters_select uid d es parts ps ≡ need 23 (value_of AT (element_of data_elements_signed ps) d) (λ bytes. selected bytes x es parts)
+          unfolding parameters_select
+          by-list x j es parts ps m y = rw (syntax-is ps m y v g, ← w, t, algorithm-is ps m y term g', j)
+
+          rest : (es parts ps : Elements) (m : ℕ) → elements_in d item.inside ≡ read ps m → parameters_select uid d es parts ps
+              ≡ need 23 (value_of AT (element_of data_elements_signed ps) d) (λ bytes. selected bytes named.algorithm es parts)
+          rest = by-list named.algorithm named.same
+
+          without-list : (e : Answer) → NoValueOf AT item.list → e ≡ refused 23 0 → ParametersSelected uid d signed signature item (Err e)
+          without-list e h' j = record {
+            says = λ es parts ps k n m u x y q. rw (rest es parts ps m y, no_value AT d item.list (element_of data_elements_signed ps) h' q, j);
           }
 
-      module _ (a : Algorithm) (v : o ≡ found_algorithm.Named a) where
-        named : (ps : Elements) (m : ℕ) → elements_in d parameters ≡ read ps m → NamedBy (algorithm_of (value_of CS (element_of mac_algorithm ps) d)) a
-        named ps m y = named_by _ a (sym v ∙ algorithm-is ps m y first second next is o h)
+          pub list-none : (e : Answer) → ((vr start end : ℕ) → item.list ≡ place.Value vr start end → ⊥) → e ≡ refused 23 0
+              → ParametersSelected uid d signed signature item (Err e)
+          list-none e h' j = without-list e (h' AT) j
 
-        -- what is left of the selection: 23
-        rest : (es parts ps : Elements) (m : ℕ) (y : elements_in d parameters ≡ read ps m)
-            → parameters_select uid d es parts ps ≡ need 23 (value_of AT (element_of data_elements_signed ps) d) (λ l. selected l (named ps m y).algorithm es parts)
-        unfolding parameters_select
-        rest es parts ps m y = rw (syntax-is ps m y first second next is b g ∙ t, (named ps m y).same)
+          module _ (vr start end : ℕ) (is' : item.list ≡ place.Value vr start end) where
+            pub list-other : (e : Answer) → (vr ≡ AT → ⊥) → e ≡ refused 23 0 → ParametersSelected uid d signed signature item (Err e)
+            list-other e h' j = without-list e (λ from to k. h' (cc)) j
 
-        pub list-none : (r : Selection) → NoValue list → r ≡ selection.Refused (refused 23 0) → ParametersSelected uid d signed signature parameters list r
-        list-none r z w =
-            record { says = λ es parts ps k n m u x y q. rw (rest es parts ps m y, no_value d list AT (element_of data_elements_signed ps) z q) w }
-
-        module _ (vr start end : ℕ) (j : list ≡ place.Value vr start end) where
-          pub list-other : (r : Selection) → (vr ≡ AT → ⊥) → r ≡ selection.Refused (refused 23 0) → ParametersSelected uid d signed signature parameters list r
-          list-other r z w =
-              record {
-                says = λ es parts ps k n m u x y q.
-                    rw (rest es parts ps m y, value-at d list vr start end j AT (element_of data_elements_signed ps) q, ne_eqb vr AT z) w;
-              }
-
-          pub list-selected : vr ≡ AT → Lies d signed → Lies d signature → PlaceLies d list
-              → ParametersSelected uid d signed signature parameters list (selection.Selected (record { start = start; end = end; algorithm = a; signed = signed; item = signature }))
-          list-selected z l l' p =
-              record {
-                says = λ es parts ps k n m u x y q.
-                    rw (rest es parts ps m y, value-at d list vr start end j AT (element_of data_elements_signed ps) q, eq-eqb vr AT z) (
-                      _,
-                      refl,
-                      record {
-                        order = value-order d list vr start end j p;
-                        inside = value-inside d list vr start end j p;
-                        listed = refl;
-                        algorithm = (named ps m y).case;
-                        signed = refl;
-                        lies = l;
-                        next = k;
-                        reads = u;
-                        item-lies = l';
-                        item-next = n;
-                        item-reads = x;
-                      },
-                    );
-              }
+            pub list-selected : vr ≡ AT → Lies d signed → Lies d signature → PlaceLies d item.list
+                → ParametersSelected uid d signed signature item (Ok (record { start = start; end = end; algorithm = a; signed = signed; item = signature }))
+            list-selected h' l l' p =
+                let j : item.list ≡ place.Value AT start end = cc in
+                record {
+                  says = λ es parts ps k n m u x y q.
+                      rw (rest es parts ps m y, value-in AT d item.list start end j (element_of data_elements_signed ps) q) (
+                        _,
+                        refl,
+                        record {
+                          order = value-order AT d item.list start end j p;
+                          inside = value-inside AT d item.list start end j p;
+                          listed = refl;
+                          algorithm = named.case;
+                          signed = refl;
+                          lies = l;
+                          next = k;
+                          reads = u;
+                          item-lies = l';
+                          item-next = n;
+                          item-reads = x;
+                        },
+                      );
+                }

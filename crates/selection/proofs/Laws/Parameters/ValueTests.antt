@@ -1,85 +1,94 @@
 -- The tests of the values of the parameters item, 21 and 22, with the facts of the place as premises. Assumes nothing.
-use Prim.Native.Nat.{ℕ, ◌-◌, ◌≤◌, ◌<◌}
-use mathlib.Core.Path.{◌≡◌, refl, sym, ap, ◌∙◌}
-use mathlib.Core.Bool.{Bool, true, false}
+use Rattle.std.specs.Prelude.{None, Some, unwrap_or}
+use Rattle.std.specs.Prelude as code
+use Rattle.std.specs.Borrow.{Bor}
+use Rattle.std.specs.Option.{MatchOption}
+use Rattle.std.specs.Bool.{then_some}
+use Prim.Native.Nat.{ℕ, ◌+◌, ◌-◌}
+use mathlib.Core.Path.{◌≡◌, refl, sym}
+use mathlib.Core.Bool.{Bool, true, false, not, ◌&&◌, ◌||◌}
 use mathlib.Core.List.{List, [], ◌∷◌}
-use mathlib.Core.Option.{some}
-use native.Mathlib.Omega.{arith}
-use lib.ListN.{length, take, drop, get_or, length-drop, length-take}
-use lib.Seq.{drop-cons, length-take-le, take_all, take-length}
-use borrow.Author.Tests.{eq-eqb, ne_eqb}
+use native.Mathlib.Numerals.{unary_clauses}
+use lib.Dec.{eqb}
+use lib.ListN.{length, take, drop, get_or}
+use lib.Pointwise.{pointwise}
 use Rattle.slices.specs.Lists.{same_bytes, all_are}
+use Rattle.slices.proofs.Laws.Comparing.{pointwise-same_bytes}
 use Rattle.selection.specs.Selection.{less_nul, implicit_vr_little_endian, explicit_vr_big_endian, bad_transfer_syntax, SHA256, is_term, algorithm_of}
-use Rattle.selection.specs.Inner.Selection.{LessNul, found_case}
+use Rattle.selection.specs.Inner.Selection.{bytes_of, named_case}
+use Rattle.selection.specs.declared.select.Algorithm.{Algorithm}
 use Rattle.selection.specs.declared.select.Algorithm.TheVariants as algorithm
-use Rattle.selection.specs.declared.parameters.FoundAlgorithm.TheVariants as found_algorithm
-use Rattle.slices.proofs.Laws.Comparing.{same-lengths}
 
 -- ---- 21
-same_byte : (l : List ℕ) (i : ℕ) → i < length l → get_or l i 1 ≡ get_or l i 0
-same_byte l i h = cc (drop-cons l i 1 h, drop-cons l i 0 h)
 
-pub nul-empty : (value : List ℕ) → length value ≡ 0 → LessNul value 0
-unfolding less_nul
-nul-empty [] h = record { within = omega arith; is = refl }
-nul-empty (x ∷ value) h = absurd (omega arith)
+-- the test of the last byte, as `strip_suffix` makes it
+nul-test : (value : List ℕ) → pointwise eqb (drop (length value - 1) value) (0 ∷ []) ≡ eqb (get_or value (length value - 1) 1) 0
+nul-test [] = refl
+nul-test (x ∷ value) = simp unary_clauses (go x value)
+  where
+    and_true : (b : Bool) → (b && true) ≡ b
+    and_true true = refl
+    and_true false = refl
 
-module _ (value : List ℕ) (n : ℕ) (e : n ≡ length value) (h : n ≡ 0 → ⊥) where
-  last : get_or value (length value - 1) 1 ≡ get_or value (n - 1) 0
-  last = rw e (same_byte value (length value - 1) (omega arith))
+    go : (x : ℕ) (value : List ℕ) → pointwise eqb (drop (length value) (x ∷ value)) (0 ∷ []) ≡ eqb (get_or (x ∷ value) (length value) 1) 0
+    go x [] = and_true (eqb x 0)
+    go x (y ∷ value) = go y value
 
-  pub nul-last : get_or value (n - 1) 0 ≡ 0 → LessNul value (n - 1)
+module _ (value r : Bor (List ℕ)) where
+  pub nul-less : (o : code.Option (Bor (List ℕ)))
+      → MatchOption o (pointwise eqb (drop (length value.now - 1) value.now) (0 ∷ []) ≡ false)
+      (λ x. (pointwise eqb (drop (length value.now - 1) value.now) (0 ∷ []) ≡ true) × (x.now ≡ take (length value.now - 1) value.now) × (length x.now + 1 ≡ length value.now))
+      → r ≡ unwrap_or o value → r.now ≡ less_nul value.now
   unfolding less_nul
-  nul-last k = record { within = omega arith; is = rw (last, eq-eqb (get_or value (n - 1) 0) 0 k, e) }
+  nul-less None h e = rw (e, ← nul-test value.now, h)
+  nul-less (Some x) h e = rw (e, ← nul-test value.now, h.0) h.1
 
-  pub nul-none : (get_or value (n - 1) 0 ≡ 0 → ⊥) → LessNul value n
-  unfolding less_nul
-  nul-none k = record { within = omega arith; is = rw (last, ne_eqb (get_or value (n - 1) 0) 0 k, e) (take-length value) }
+module _ (uid : List ℕ) (t : code.Option (Bor (List ℕ))) where
+  pub uid-none : t ≡ None → true ≡ bad_transfer_syntax uid (bytes_of t)
+  unfolding bad_transfer_syntax
+  uid-none e = rw e
 
-pub uid-empty : (uid value : List ℕ) → length value ≡ 0 → true ≡ bad_transfer_syntax uid (some value)
-unfolding bad_transfer_syntax
-uid-empty uid value h = rw (eq-eqb (length value) 0 h)
-
-module _ (uid value : List ℕ) (n : ℕ) (l : LessNul value n) where
-  pub uid-count : n ≡ length (take n value)
-  uid-count = sym (length-take-le n value l.within)
-
-  module _ (h : length value ≡ 0 → ⊥) (b : Bool) (e : b ≡ same_bytes (take n value) uid) where
-    pub uid-other : b ≡ false → true ≡ bad_transfer_syntax uid (some value)
+  -- by the tests of the value: e of its length, u of the caller's UID, and v that it fails one of these, w that or the first forbidden one
+  module _ (value name : Bor (List ℕ)) (is : t ≡ Some value) (l : name.now ≡ less_nul value.now) (e v w : Bool) (k : e ≡ eqb (length value.now) 0)
+      (h : v ≡ (e || not (same_bytes name.now uid))) (j : w ≡ (v || same_bytes name.now implicit_vr_little_endian)) where
+    uid-tests : (r : Bool) → r ≡ (w || same_bytes name.now explicit_vr_big_endian) → r ≡ bad_transfer_syntax uid (bytes_of t)
     unfolding bad_transfer_syntax
-    uid-other t = rw (ne_eqb (length value) 0 h, ← l.is, ← e, t)
+    uid-tests r q = rw (is, ← l, ← k, q, j, h)
+        (grouped e (not (same_bytes name.now uid)) (same_bytes name.now implicit_vr_little_endian) (same_bytes name.now explicit_vr_big_endian))
+      where
+        grouped : (a b c d : Bool) → (((a || b) || c) || d) ≡ (a || (b || (c || d)))
+        grouped true b c d = refl
+        grouped false true c d = refl
+        grouped false false c d = refl
 
-    module _ (t : b ≡ true) (f : Bool) (g : f ≡ same_bytes (take n value) implicit_vr_little_endian) where
-      pub uid-implicit : f ≡ true → true ≡ bad_transfer_syntax uid (some value)
-      unfolding bad_transfer_syntax
-      uid-implicit u = rw (ne_eqb (length value) 0 h, ← l.is, ← e, t, ← g, u)
+    pub uid-bad : w ≡ true → w ≡ bad_transfer_syntax uid (bytes_of t)
+    uid-bad q = uid-tests w (rw q)
 
-      pub uid-rest : (r : Bool) → f ≡ false → r ≡ same_bytes (take n value) explicit_vr_big_endian → r ≡ bad_transfer_syntax uid (some value)
-      unfolding bad_transfer_syntax
-      uid-rest r u w = rw (ne_eqb (length value) 0 h, ← l.is, ← e, t, ← g, u) w
+    pub uid-rest : (r : Bool) → w ≡ false → r ≡ same_bytes name.now explicit_vr_big_endian → r ≡ bad_transfer_syntax uid (bytes_of t)
+    uid-rest r q k = uid-tests r (rw q k)
+
+-- a test by two, the second where the first fails
+pub tested-first : (v a b : Bool) → v ≡ a → a ≡ true → v ≡ (a || b)
+tested-first v a b e h = rw (e, h)
+
+pub tested-second : (v a b c : Bool) → v ≡ c → a ≡ false → c ≡ b → v ≡ (a || b)
+tested-second v a b c e h k = rw (h, e) k
 
 -- ---- 22
-pub term-short : (value : List ℕ) → length value < 6 → false ≡ is_term SHA256 value
+pub is-term : (value : List ℕ) (o : code.Option (Bor (List ℕ))) (r : Bool)
+    → MatchOption o (pointwise eqb (take 6 value) SHA256 ≡ false)
+    (λ x. (pointwise eqb (take 6 value) SHA256 ≡ true) × (x.now ≡ drop 6 value) × (length x.now + 6 ≡ length value))
+    → MatchOption o (r ≡ false) (λ x. r ≡ all_are 0x20 x.now) → r ≡ is_term SHA256 value
 unfolding is_term
-term-short value h = rw (← same-lengths (take 6 value) SHA256 (λ e. omega (arith, simp length-take at e)))
+is-term value None r h k = rw (← pointwise-same_bytes (take 6 value) SHA256, h) k
+is-term value (Some x) r h k = rw (← pointwise-same_bytes (take 6 value) SHA256, h.0, ← h.1) k
 
-pub term-count : (value : List ℕ) → 6 ≤ length value → 6 ≡ length (take 6 value)
-term-count value h = sym (length-take-le 6 value h)
-
-module _ (value : List ℕ) (b : Bool) (e : b ≡ same_bytes (take 6 value) SHA256) where
-  pub term-other : b ≡ false → false ≡ is_term SHA256 value
-  unfolding is_term
-  term-other t = rw (← e, t)
-
-  pub term-spaces : (r : Bool) → b ≡ true → r ≡ all_are 0x20 (take (length value - 6) (drop 6 value)) → r ≡ is_term SHA256 value
-  unfolding is_term
-  term-spaces r t w = rw (← e, t) (w ∙ ap (all_are 0x20) (take_all (length value - 6) (drop 6 value) (simp length-drop (omega arith))))
-
-module _ (value : List ℕ) (b : Bool) (e : b ≡ is_term SHA256 value) where
-  pub term-unknown : b ≡ false → found_algorithm.Unknown ≡ found_case (algorithm_of (some value))
+module _ (t : code.Option (Bor (List ℕ))) (r : code.Option Algorithm) where
+  pub term-none : t ≡ None → r ≡ None → r ≡ named_case (algorithm_of (bytes_of t))
   unfolding algorithm_of
-  term-unknown t = rw (← e, t)
+  term-none e w = rw e w
 
-  pub term-known : b ≡ true → found_algorithm.Named algorithm.Sha256 ≡ found_case (algorithm_of (some value))
+  pub term-named : (x : Bor (List ℕ)) → t ≡ Some x → (b : Bool) → b ≡ is_term SHA256 x.now → r ≡ then_some b algorithm.Sha256 → r ≡ named_case (algorithm_of (bytes_of t))
   unfolding algorithm_of
-  term-known t = rw (← e, t)
+  term-named x e true h w = rw (e, ← h) w
+  term-named x e false h w = rw (e, ← h) w

@@ -3,19 +3,19 @@
 use Rattle.std.proofs.Common.{if◌then◌else◌}
 use Prim.Native.Nat.{ℕ, ◌+◌, ◌*◌, ◌/◌, ◌≤◌, ◌<◌}
 use mathlib.Core.Path.{◌≡◌, refl, sym, ap, ◌∙◌}
-use mathlib.Core.Option.{some}
-use mathlib.Core.Option as Opt
 use mathlib.Core.Bool.{Bool, true, false, true≢false}
 use mathlib.Core.List.{List, [], ◌∷◌}
 use native.Mathlib.Omega.{arith}
 use lib.ListN.{length, drop, get_or, length-drop}
+use Rattle.std.specs.Prelude.{Option, Some, None, Result, Ok, Err}
 use lib.Dec.{ltb}
 use borrow.Author.Tests.{lt-ltb, le-ltb, le-leb, eq-eqb, ne_eqb}
 use Rattle.answer.specs.declared.Answer.{Answer}
 use Rattle.answer.specs.Answer.{accepted, refused, ◌or_else◌}
-use Rattle.dataset.specs.Bytes.{num16, tag_at, tag_in, tag_case}
-use Rattle.dataset.specs.declared.bytes.TagIn.{TagIn}
-use Rattle.dataset.specs.declared.bytes.TagIn.TheVariants as tag_enum
+use Rattle.answer.specs.Step.{test_by}
+use Rattle.answer.proofs.Laws.Steps.{test-passes, test-refuses, test-before, test-behind}
+use Rattle.answer.proofs.Laws.Chains.{test-stops, test-goes-on}
+use Rattle.dataset.specs.Bytes.{num16, tag_at, tag_in}
 use Rattle.slices.proofs.Laws.Parts.{drop-one}
 use Rattle.stream.specs.TagList.{barred, tags_in, bad_size, ascending_answer, unbarred_answer, list_answer}
 
@@ -45,16 +45,23 @@ none_in (a ∷ b ∷ c ∷ d ∷ l) h = absurd (omega arith)
 pub tags-none : (l : List ℕ) (index : ℕ) → length l / 4 ≤ index → tags_in (drop (4 * index) l) ≡ []
 tags-none l index h = none_in (drop (4 * index) l) (simp length-drop (omega arith))
 
-pub tag-there : (l : List ℕ) (i tag : ℕ) (t : TagIn) → i + 4 ≤ length l → tag_case t ≡ tag_in l i → t ≡ tag_enum.Tag tag → tag ≡ tag_at l i
+pub tag-found : (l : List ℕ) (i : ℕ) (t : Option ℕ) → i + 4 ≤ length l → t ≡ tag_in l i → t ≡ Some (tag_at l i)
 unfolding tag_in
-tag-there l i tag t h e q = let z : some tag ≡ some (tag_at l i) = sym (ap tag_case q) ∙ e ∙ rw (le-leb (i + 4) (length l) h) in cc
+tag-found l i t h e = e ∙ rw (le-leb (i + 4) (length l) h)
 
-pub tag-not-absent : (l : List ℕ) (i : ℕ) (t : TagIn) → i + 4 ≤ length l → tag_case t ≡ tag_in l i → (t ≡ tag_enum.Absent) → ⊥
-unfolding tag_in
-tag-not-absent l i t h e q = let z : Opt.none ≡ some (tag_at l i) = sym (ap tag_case q) ∙ e ∙ rw (le-leb (i + 4) (length l) h) in true≢false (cc)
+pub tag-there : (l : List ℕ) (i tag : ℕ) (t : Option ℕ) → i + 4 ≤ length l → t ≡ tag_in l i → t ≡ Some tag → tag ≡ tag_at l i
+tag-there l i tag t h e q = let z : Some tag ≡ Some (tag_at l i) = sym q ∙ tag-found l i t h e in cc
 
 pub tag-inside : (l : List ℕ) (index count : ℕ) → count ≡ length l / 4 → index < count → 4 * index + 4 ≤ length l
 tag-inside l index count e h = omega arith
+
+
+-- ---- a refusal with its number, and none
+refused-by : (number index : ℕ) (a b : Answer) → a ≡ refused number index → b ≡ refused number index → (number ≡ 0 → ⊥) → Err a ≡ test_by b
+refused-by number index a b e q h = test-refuses a b (e ∙ sym q) (λ z. h (ap (λ (x : Answer). x.number) (sym q) ∙ z))
+
+passed-by : (b : Answer) → b ≡ accepted 0 → Ok tt ≡ test_by b
+passed-by b q = test-passes b (ap (λ (x : Answer). x.number) q)
 
 -- ---- 11
 pub record OrderLoop (l : List ℕ) (index least : ℕ) : Type 0 where
@@ -70,15 +77,16 @@ module _ (l : List ℕ) (index least : ℕ) (i : OrderLoop l index least) where
   unfolding ascending_answer
   order-on tag h e = i.same ∙ rw (tags-more l index h, ← e)
 
-  pub order-refused : (tag : ℕ) (a : Answer) → index < length l / 4 → tag ≡ tag_at l (4 * index) → tag < least → a ≡ refused 11 index → a ≡ ascending_answer 0 0 (tags_in l)
-  order-refused tag a h e k w = w ∙ sym (order-on tag h e ∙ rw (lt-ltb tag least k))
+  pub order-refused : (tag : ℕ) (a : Answer) → index < length l / 4 → tag ≡ tag_at l (4 * index) → tag < least → a ≡ refused 11 index
+      → Err a ≡ test_by (ascending_answer 0 0 (tags_in l))
+  order-refused tag a h e k w = refused-by 11 index a (ascending_answer 0 0 (tags_in l)) w (order-on tag h e ∙ rw (lt-ltb tag least k)) (λ z. omega arith)
 
   pub order-again : (tag : ℕ) → index < length l / 4 → tag ≡ tag_at l (4 * index) → least ≤ tag → OrderLoop l (index + 1) (tag + 1)
   order-again tag h e k = record { inside = omega arith; same = order-on tag h e ∙ rw (le-ltb tag least k) }
 
-  pub order-done : (a : Answer) → length l / 4 ≤ index → a ≡ accepted 0 → a ≡ ascending_answer 0 0 (tags_in l)
+  pub order-done : length l / 4 ≤ index → Ok tt ≡ test_by (ascending_answer 0 0 (tags_in l))
   unfolding ascending_answer
-  order-done a h w = w ∙ sym (i.same ∙ rw (tags-none l index h))
+  order-done h = passed-by (ascending_answer 0 0 (tags_in l)) (i.same ∙ rw (tags-none l index h))
 
 -- ---- 12
 pub record BarredLoop (l : List ℕ) (index : ℕ) : Type 0 where
@@ -95,27 +103,40 @@ module _ (l : List ℕ) (index : ℕ) (i : BarredLoop l index) where
   barred-on tag h e = i.same ∙ rw (tags-more l index h, ← e)
 
   pub barred-refused : (tag : ℕ) (b : Bool) (a : Answer) → index < length l / 4 → tag ≡ tag_at l (4 * index) → b ≡ barred tag → b ≡ true → a ≡ refused 12 index
-      → a ≡ unbarred_answer 0 (tags_in l)
-  barred-refused tag b a h e k t w = w ∙ sym (barred-on tag h e ∙ rw (← k, t))
+      → Err a ≡ test_by (unbarred_answer 0 (tags_in l))
+  barred-refused tag b a h e k t w = refused-by 12 index a (unbarred_answer 0 (tags_in l)) w (barred-on tag h e ∙ rw (← k, t)) (λ z. omega arith)
 
   pub barred-again : (tag : ℕ) (b : Bool) → index < length l / 4 → tag ≡ tag_at l (4 * index) → b ≡ barred tag → b ≡ false → BarredLoop l (index + 1)
   barred-again tag b h e k t = record { inside = omega arith; same = barred-on tag h e ∙ rw (← k, t) }
 
-  pub barred-done : (a : Answer) → length l / 4 ≤ index → a ≡ accepted 0 → a ≡ unbarred_answer 0 (tags_in l)
+  pub barred-done : length l / 4 ≤ index → Ok tt ≡ test_by (unbarred_answer 0 (tags_in l))
   unfolding unbarred_answer
-  barred-done a h w = w ∙ sym (i.same ∙ rw (tags-none l index h))
+  barred-done h = passed-by (unbarred_answer 0 (tags_in l)) (i.same ∙ rw (tags-none l index h))
 
 -- ---- the whole list
+size-answer : List ℕ → Answer
+size-answer l = if bad_size (length l) then refused 10 0 else accepted 0
+
 module _ (l : List ℕ) (b : Bool) (e : b ≡ bad_size (length l)) where
-  pub list-size : (a : Answer) → b ≡ true → a ≡ refused 10 0 → a ≡ list_answer l
-  unfolding list_answer ◌or_else◌
-  list-size a t w = w ∙ sym (rw (← e, t))
+  pub list-size : (a : Answer) → b ≡ true → a ≡ refused 10 0 → Err a ≡ test_by (list_answer l)
+  unfolding list_answer size-answer
+  list-size a t w =
+      let n : ◌≡◌ {A = Answer} (size-answer l) (refused 10 0) = rw (← e, t) in
+      test-before a (size-answer l) _ (w ∙ sym n) (λ z. let y : ◌≡◌ {A = ℕ} 10 0 = ap (λ (x : Answer). x.number) (sym n) ∙ z in omega arith)
 
-  module _ (t : b ≡ false) (f : Answer) (g : f ≡ ascending_answer 0 0 (tags_in l)) where
-    pub list-order : (f.number ≡ 0 → ⊥) → f ≡ list_answer l
-    unfolding list_answer ◌or_else◌
-    list-order h = rw (← e, t, ← g, ne_eqb f.number 0 h)
+  -- r is what the order answers
+  module _ (t : b ≡ false) (r : Result (Unit {0}) Answer) (q : r ≡ test_by (ascending_answer 0 0 (tags_in l))) where
+    abbrev rest : Answer
+    rest = ascending_answer 0 0 (tags_in l) or_else unbarred_answer 0 (tags_in l)
 
-    pub list-rest : (a : Answer) → f.number ≡ 0 → a ≡ unbarred_answer 0 (tags_in l) → a ≡ list_answer l
-    unfolding list_answer ◌or_else◌
-    list-rest a h w = rw (← e, t, ← g, eq-eqb f.number 0 h) w
+    sized : (size-answer l).number ≡ 0
+    unfolding size-answer
+    sized = rw (← e, t)
+
+    pub list-order : (f : Answer) → r ≡ Err f → Err f ≡ test_by (list_answer l)
+    unfolding list_answer size-answer
+    list-order f h = test-behind (size-answer l) rest (Err f) sized (test-stops r (ascending_answer 0 0 (tags_in l)) (unbarred_answer 0 (tags_in l)) q f h)
+
+    pub list-rest : (u : Unit {0}) → r ≡ Ok u → (z : Result (Unit {0}) Answer) → z ≡ test_by (unbarred_answer 0 (tags_in l)) → z ≡ test_by (list_answer l)
+    unfolding list_answer size-answer
+    list-rest u h z w = test-behind (size-answer l) rest z sized (test-goes-on r (ascending_answer 0 0 (tags_in l)) (unbarred_answer 0 (tags_in l)) q u h z w)

@@ -9,7 +9,11 @@ use lib.Dec.{ltb}
 use lib.ListN.{length}
 use Rattle.answer.specs.declared.Answer.{Answer}
 use Rattle.answer.specs.Answer.{accepted, refused, ◌or_else◌}
-use Rattle.answer.proofs.Laws.OrElse.{or-else-second, refused-first, or-else-assoc, both-accepted}
+use Rattle.std.specs.Prelude.{Option, Result, Ok, Err}
+use Rattle.answer.specs.Step.{step_by, test_by}
+use Rattle.answer.proofs.Laws.OrElse.{or-else-second, or-else-assoc, both-accepted}
+use Rattle.answer.proofs.Laws.Steps.{step-accepted, step-refuses, test-accepted, test-refused}
+use Rattle.answer.proofs.Laws.Chains.{test-stops-step, test-then-step}
 use Rattle.dataset.specs.Reading.{answer_of}
 use Rattle.dataset.specs.Place.{Lies}
 use Rattle.dataset.specs.Extent.{elements_in, outside_answer}
@@ -18,7 +22,6 @@ use Rattle.dataset.proofs.Laws.Extent.Outside.{outside-fault, read-lies}
 use Rattle.stream.specs.TagList.{tags_in, bad_size, ascending_answer, unbarred_answer, list_answer}
 use Rattle.stream.specs.Walk.{item_reading, stream_in, read_answer, answer_to15, measure}
 use Rattle.stream.specs.Inner.Walk.{walk_answer, StreamWalk}
-use Rattle.stream.specs.declared.walk.SignatureItem.{SignatureItem}
 use Rattle.stream.proofs.Laws.Walk.StreamWalk.{walk-fault}
 
 -- ---- the tag list
@@ -33,14 +36,18 @@ ascending-accepted index least [] h = refl
 ascending-accepted index least (tag ∷ tags) h =
     first-accepted (ltb tag least) index (ascending_answer (index + 1) (tag + 1) tags) (ascending-accepted (index + 1) (tag + 1) tags) h
 
-pub list-ascends : (l : List ℕ) (f : Answer) → f ≡ list_answer l → f.number ≡ 0 → ascending_answer 0 0 (tags_in l) ≡ accepted 0
+list-ascends : (l : List ℕ) → (list_answer l).number ≡ 0 → ascending_answer 0 0 (tags_in l) ≡ accepted 0
 unfolding list_answer
-list-ascends l f e h =
-    let a = both-accepted (if bad_size (length l) then refused 10 0 else accepted 0) (ascending_answer 0 0 (tags_in l) or_else unbarred_answer 0 (tags_in l)) (sym (ap (λ (x : Answer). x.number) e) ∙ h) in
+list-ascends l h =
+    let a = both-accepted (if bad_size (length l) then refused 10 0 else accepted 0) (ascending_answer 0 0 (tags_in l) or_else unbarred_answer 0 (tags_in l)) h in
     ascending-accepted 0 0 (tags_in l) (both-accepted (ascending_answer 0 0 (tags_in l)) (unbarred_answer 0 (tags_in l)) a.second).first
 
+-- where the test of the list passes
+pub passed-ascends : (l : List ℕ) (f : Result (Unit {0}) Answer) → f ≡ test_by (list_answer l) → (u : Unit {0}) → f ≡ Ok u → ascending_answer 0 0 (tags_in l) ≡ accepted 0
+passed-ascends l f e u h = list-ascends l (test-accepted f (list_answer l) e u h)
+
 -- ---- measuring
-module _ (l d : List ℕ) (x : Extent) (item : SignatureItem) where
+module _ (l d : List ℕ) (x : Extent) (item : Option Extent) where
   abbrev walk : Answer
   walk = walk_answer (tags_in l) d (elements_in d x) (item_reading d item)
 
@@ -48,24 +55,27 @@ module _ (l d : List ℕ) (x : Extent) (item : SignatureItem) where
   unfolding measure answer_to15 stream_in walk_answer
   measure-is = or-else-assoc (list_answer l) _ _
 
-  -- f is the answer of the list
-  module _ (f : Answer) (e : f ≡ list_answer l) where
-    pub measure-refused : (f.number ≡ 0 → ⊥) → f ≡ measure l d x item
-    measure-refused h = refused-first f (list_answer l) walk e h ∙ sym measure-is
+  -- f is the test of the list
+  module _ (f : Result (Unit {0}) Answer) (e : f ≡ test_by (list_answer l)) where
+    pub measure-refused : (a : Answer) → f ≡ Err a → Err a ≡ step_by (measure l d x item)
+    measure-refused a h = test-stops-step f (list_answer l) walk e a h ∙ ap step_by (sym measure-is)
 
-    walked : f.number ≡ 0 → measure l d x item ≡ walk
-    walked h = measure-is ∙ or-else-second (list_answer l) _ (ap (λ (a : Answer). a.number) (sym e) ∙ h)
+    module _ (u : Unit {0}) (h : f ≡ Ok u) where
+      walked : (r : Result ℕ Answer) → r ≡ step_by walk → r ≡ step_by (measure l d x item)
+      walked r w = test-then-step f (list_answer l) walk e u h r w ∙ ap step_by (sym measure-is)
 
-    pub measure-outside : f.number ≡ 0 → (b : Answer) → b ≡ outside_answer d x → (b.number ≡ 0 → ⊥) → b ≡ measure l d x item
-    measure-outside h b q k = sym (walked h ∙ rw (outside-fault d x b q k) (walk-fault (tags_in l) d b (item_reading d item) k))
+      pub measure-outside : (b : Result (Unit {0}) Answer) → b ≡ test_by (outside_answer d x) → (a : Answer) → b ≡ Err a → Err a ≡ step_by (measure l d x item)
+      measure-outside b q a k =
+          let n = test-refused b (outside_answer d x) q a k in
+          walked (Err a) (step-refuses a a refl n ∙ ap step_by (sym (rw (outside-fault d x b q a k) (walk-fault (tags_in l) d a (item_reading d item) n))))
 
-    pub measure-walked : f.number ≡ 0 → (r : Answer) (xs ys : List ℕ) → StreamWalk l d x item r xs ys → r ≡ measure l d x item
-    measure-walked h r xs ys w = w.answers ∙ sym (walked h)
+      pub measure-walked : (r : Result ℕ Answer) (xs ys : List ℕ) → StreamWalk l d x item r xs ys → r ≡ step_by (measure l d x item)
+      measure-walked r xs ys w = walked r w.answers
 
-  -- m is what measuring answers; accepted, none of 10 to 15 is given
-  module _ (m : Answer) (e : m ≡ measure l d x item) (h : m.number ≡ 0) where
+  -- m is what measuring gives; where it is a length, none of 10 to 15 is given
+  module _ (m : Result ℕ Answer) (e : m ≡ step_by (measure l d x item)) (n : ℕ) (h : m ≡ Ok n) where
     accepts : (measure l d x item).number ≡ 0
-    accepts = ap (λ (a : Answer). a.number) (sym e) ∙ h
+    accepts = (step-accepted m (measure l d x item) e n h).0
 
     pub first-accepts : (answer_to15 l d x item).number ≡ 0
     unfolding measure
@@ -75,13 +85,13 @@ module _ (l d : List ℕ) (x : Extent) (item : SignatureItem) where
     pub measure-walk : measure l d x item ≡ walk
     measure-walk = measure-is ∙ or-else-second (list_answer l) _ (both-accepted (list_answer l) walk (ap (λ (a : Answer). a.number) (sym measure-is) ∙ accepts)).first
 
-    pub measured-long : m ≡ accepted (length (stream_in l d x item))
+    pub measured-long : n ≡ length (stream_in l d x item)
     unfolding measure
-    measured-long = e ∙ or-else-second (answer_to15 l d x item) _ first-accepts
+    measured-long = (step-accepted m (measure l d x item) e n h).1 ∙ ap (λ (a : Answer). a.length) (or-else-second (answer_to15 l d x item) _ first-accepts)
 
     pub measured-ascends : ascending_answer 0 0 (tags_in l) ≡ accepted 0
     unfolding answer_to15
-    measured-ascends = list-ascends l (list_answer l) refl (both-accepted (list_answer l) _ first-accepts).first
+    measured-ascends = list-ascends l (both-accepted (list_answer l) _ first-accepts).first
 
     pub measured-lies : Lies d x
     unfolding answer_to15 read_answer

@@ -2,15 +2,18 @@
 use Prim.Native.Nat.{ℕ, ◌+◌, ◌≤◌}
 use native.Mathlib.Nat.{zero-add}
 use mathlib.Core.Path.{◌≡◌, refl, sym, ap, ◌∙◌}
-use mathlib.Core.Bool.{Bool, true, false}
+use mathlib.Core.Bool.{true≢false}
 use mathlib.Core.List.{List, ◌++◌}
 use native.Mathlib.Omega.{arith}
-use lib.Dec.{eqb}
 use lib.ListN.{length, length-append}
 use lib.Seq.{sets}
-use borrow.Author.Tests.{eqb-true, eqb-false}
+use Rattle.std.specs.Prelude.{Option, Some, None, Result, Ok, Err}
+use Rattle.std.specs.Result.{IfOk}
+use Rattle.std.proofs.lemmas.Result.{IfOk-at_ok, IfOk-weaker}
 use Rattle.answer.specs.declared.Answer.{Answer}
 use Rattle.answer.specs.Answer.{accepted, ◌or_else◌}
+use Rattle.answer.specs.Step.{step_by}
+use Rattle.answer.proofs.Laws.Steps.{step-accepted, step-is, step-passes, step-refuses, step-behind}
 use Rattle.answer.proofs.Laws.OrElse.{or-else-first, or-else-second, both-accepted}
 use Rattle.slices.proofs.Laws.Writing.{sets-append}
 use Rattle.dataset.specs.Tree.{Elements}
@@ -26,8 +29,6 @@ use Rattle.stream.specs.Walk.{item_reading, signed_stream, stream_in, read_answe
 use Rattle.stream.specs.Inner.Own.{own_stream}
 use Rattle.stream.specs.Inner.Listed.{listed_answer, ListedLeaves, ListWalk}
 use Rattle.stream.specs.Inner.Walk.{walk_answer, FollowingWalk, StreamWalk}
-use Rattle.stream.specs.declared.walk.SignatureItem.{SignatureItem}
-use Rattle.stream.specs.declared.walk.SignatureItem.TheVariants as signature_item
 use Rattle.stream.proofs.Laws.Walk.Following.{fault-number}
 
 -- ---- the answer, by what the data set and the signature item read
@@ -62,96 +63,95 @@ listed-is : (tags d : List ℕ) (es : Elements) (next : ℕ) → listed_answer (
 unfolding listed_answer by_tags
 listed-is tags d es next = or-else-second (accepted 0) _ refl ∙ rw (zero-add (length (listed_stream tags es d)))
 
--- where the walk over the list is accepted
-pub record ListedRead (l d : List ℕ) (x : Extent) (a : Answer) (xs ys : List ℕ) : Type 0 where
+-- where the walk over the list gives a length
+pub record ListedRead (l d : List ℕ) (x : Extent) (n : ℕ) (xs ys : List ℕ) : Type 0 where
   pub elements : Elements
   pub next : ℕ
   pub reads : elements_in d x ≡ read elements next
   pub found : (tags_answer 0 (tags_in l) elements).number ≡ 0
-  pub long : a ≡ accepted (length (listed_stream (tags_in l) elements d))
+  pub long : n ≡ length (listed_stream (tags_in l) elements d)
   pub output : ys ≡ sets xs 0 (listed_stream (tags_in l) elements d)
 
-module _ (l d : List ℕ) (x : Extent) (a : Answer) (xs ys : List ℕ) (lies : Lies d x) (w : ListWalk l d x a xs ys) where
+module _ (l d : List ℕ) (x : Extent) (a : Result ℕ Answer) (xs ys : List ℕ) (lies : Lies d x) (w : ListWalk l d x a xs ys) where
   -- by what is read
-  listed_by : (p : Reading Elements) → elements_in d x ≡ p → a ≡ listed_answer (accepted 0) 0 (tags_in l) d p → ListedLeaves (accepted 0) 0 (tags_in l) d p xs ys
-      → a.number ≡ 0 → ListedRead l d x a xs ys
+  listed_by : (n : ℕ) → a ≡ Ok n → (p : Reading Elements) → elements_in d x ≡ p → a ≡ step_by (listed_answer (accepted 0) 0 (tags_in l) d p)
+      → ListedLeaves (accepted 0) 0 (tags_in l) d p xs ys → ListedRead l d x n xs ys
   unfolding listed_answer ListedLeaves by_tags
-  listed_by (fault f) e q o h = absurd (fault-number d x f lies e (ap (λ (z : Answer). z.number) (sym q) ∙ h))
-  listed_by (read es n) e q o h =
-      let r = q ∙ listed-is (tags_in l) d es n in
-      let f = both-accepted (tags_answer 0 (tags_in l) es) _ (ap (λ (z : Answer). z.number) (sym r) ∙ h) in
+  listed_by n h (fault f) e q o = absurd (fault-number d x f lies e (step-accepted a f q n h).0)
+  listed_by n h (read es k) e q o =
+      let s = step-accepted a (listed_answer (accepted 0) 0 (tags_in l) d (read es k)) q n h in
+      let r = listed-is (tags_in l) d es k in
+      let f = both-accepted (tags_answer 0 (tags_in l) es) _ (ap (λ (z : Answer). z.number) (sym r) ∙ s.0) in
       record {
         elements = es;
-        next = n;
+        next = k;
         reads = e;
         found = f.first;
-        long = r ∙ or-else-second (tags_answer 0 (tags_in l) es) _ f.first;
-        output = o (ap (λ (z : Answer). z.number) (sym q) ∙ h);
+        long = s.1 ∙ ap (λ (z : Answer). z.length) (r ∙ or-else-second (tags_answer 0 (tags_in l) es) _ f.first);
+        output = o s.0;
       }
 
-  listed-read : a.number ≡ 0 → ListedRead l d x a xs ys
-  listed-read h = listed_by (elements_in d x) refl w.answers w.output h
+  listed-read : (n : ℕ) → a ≡ Ok n → ListedRead l d x n xs ys
+  listed-read n h = listed_by n h (elements_in d x) refl w.answers w.output
 
   -- a refusal
-  refused-by : (q p : Reading Elements) → a ≡ listed_answer (accepted 0) 0 (tags_in l) d p → (a.number ≡ 0 → ⊥) → a ≡ walk_answer (tags_in l) d p q
+  refused-by : (q p : Reading Elements) → ((listed_answer (accepted 0) 0 (tags_in l) d p).number ≡ 0 → ⊥)
+      → listed_answer (accepted 0) 0 (tags_in l) d p ≡ walk_answer (tags_in l) d p q
   unfolding listed_answer by_tags
-  refused-by q (fault f) e h = e ∙ sym (walk-fault (tags_in l) d f q (λ z. h (ap (λ (b : Answer). b.number) e ∙ z)))
-  refused-by q (read es n) e h =
+  refused-by q (fault f) h = sym (walk-fault (tags_in l) d f q h)
+  refused-by q (read es n) h =
       let t = tags_answer 0 (tags_in l) es in
-      let r = e ∙ listed-is (tags_in l) d es n in
+      let r = listed-is (tags_in l) d es n in
       let k : t.number ≡ 0 → ⊥ = λ z. h (ap (λ (b : Answer). b.number) (r ∙ or-else-second t _ z)) in
       r ∙ or-else-first t _ k ∙ sym (walk-tags (tags_in l) d es n q k)
 
-  pub all-refused : (item : SignatureItem) → (a.number ≡ 0 → ⊥) → StreamWalk l d x item a xs ys
-  all-refused item h =
-      record { answers = refused-by (item_reading d item) (elements_in d x) w.answers h; output = λ z. absurd (h z); short = λ z. absurd (h z) }
+  pub all-refused : (item : Option Extent) (f : Answer) → a ≡ Err f → StreamWalk l d x item (Err f) xs ys
+  all-refused item f h =
+      let s = step-is a (listed_answer (accepted 0) 0 (tags_in l) d (elements_in d x)) w.answers f h in
+      let r = refused-by (item_reading d item) (elements_in d x) s.1 in
+      record {
+        answers = step-refuses f _ (s.0 ∙ r) (λ z. s.1 (ap (λ (b : Answer). b.number) r ∙ z));
+        output = λ n z. absurd (true≢false (cc));
+        short = tt;
+      }
 
-  pub follows-short : a.length ≤ length d
-  follows-short = w.short
+  module _ (n : ℕ) (h : a ≡ Ok n) where
+    pub follows-short : n ≤ length d
+    follows-short = IfOk-at_ok (λ m. m ≤ length d) h w.short
 
-  -- what follows, by what the signature item reads: r is the answer, and zs what is left
-  module _ (h : a.number ≡ 0) (item : SignatureItem) (r : Answer) (zs : List ℕ) where
-    abbrev g : ListedRead l d x a xs ys
-    g = listed-read h
+    -- what follows, by what the signature item reads: r is the step, and zs what is left
+    module _ (item : Option Extent) (r : Result ℕ Answer) (zs : List ℕ) where
+      abbrev g : ListedRead l d x n xs ys
+      g = listed-read n h
 
-    abbrev s : List ℕ
-    s = listed_stream (tags_in l) g.elements d
+      abbrev s : List ℕ
+      s = listed_stream (tags_in l) g.elements d
 
-    abbrev after : List ℕ
-    after = own_stream (tree_of (item_reading d item)) d
+      abbrev after : List ℕ
+      after = own_stream (tree_of (item_reading d item)) d
 
-    length-is : a.length ≡ length s
-    length-is = ap (λ (z : Answer). z.length) g.long
+      stream-is : stream_in l d x item ≡ s ++ after
+      unfolding stream_in signed_stream own_stream
+      stream-is = ap (λ (p : Reading Elements). signed_stream (tags_in l) (tree_of p) (tree_of (item_reading d item)) d) g.reads
 
-    stream-is : stream_in l d x item ≡ s ++ after
-    unfolding stream_in signed_stream own_stream
-    stream-is = ap (λ (p : Reading Elements). signed_stream (tags_in l) (tree_of p) (tree_of (item_reading d item)) d) g.reads
+      follows : r ≡ step_by (answer_of (item_reading d item) or_else accepted (n + length after)) → ((m : ℕ) → r ≡ Ok m → zs ≡ sets ys n after)
+          → IfOk r (λ m. m ≤ n + length d) → StreamWalk l d x item r xs zs
+      follows q o k = record {
+        answers =
+            q ∙ ap (λ (i : ℕ). step_by (answer_of (item_reading d item) or_else accepted (i + length after))) g.long
+            ∙ ap step_by (sym (ap (λ (p : Reading Elements). walk_answer (tags_in l) d p (item_reading d item)) g.reads ∙ walk-on (tags_in l) d g.elements g.next (item_reading d item) g.found));
+        output = λ m z.
+            o m z ∙ ap (λ (i : ℕ). sets ys i after) g.long ∙ ap (λ (v : List ℕ). sets v (length s) after) g.output
+            ∙ sym (ap (sets xs 0) stream-is ∙ sets-append xs 0 s after ∙ ap (λ (i : ℕ). sets (sets xs 0 s) i after) (zero-add (length s)));
+        short = IfOk-weaker r (λ m. m ≤ n + length d) (λ m. m ≤ length d + length d) (λ m z. omega (arith, follows-short, z)) k;
+      }
 
-    follows : r ≡ (answer_of (item_reading d item) or_else accepted (a.length + length after)) → (r.number ≡ 0 → zs ≡ sets ys a.length after)
-        → (r.number ≡ 0 → r.length ≤ a.length + length d) → StreamWalk l d x item r xs zs
-    follows q o k = record {
-      answers =
-          q ∙ ap (λ (i : ℕ). answer_of (item_reading d item) or_else accepted (i + length after)) length-is
-          ∙ sym (ap (λ (p : Reading Elements). walk_answer (tags_in l) d p (item_reading d item)) g.reads ∙ walk-on (tags_in l) d g.elements g.next (item_reading d item) g.found);
-      output = λ z.
-          o z ∙ ap (λ (i : ℕ). sets ys i after) length-is ∙ ap (λ (v : List ℕ). sets v (length s) after) g.output
-          ∙ sym (ap (sets xs 0) stream-is ∙ sets-append xs 0 s after ∙ ap (λ (i : ℕ). sets (sets xs 0 s) i after) (zero-add (length s)));
-      short = λ z. omega (arith, w.short, k z);
-    }
+    -- list mode: nothing follows
+    pub listed-alone : (item : Option Extent) → item ≡ None → StreamWalk l d x item (Ok n) xs ys
+    unfolding own_stream own elements_stream
+    listed-alone item e =
+        let z : n + 0 ≡ n = omega arith in
+        rw e (follows None (Ok n) ys (step-behind (accepted 0) _ (Ok n) refl (step-passes n (accepted (n + 0)) (ap accepted z))) (λ m q. refl) (omega arith))
 
-  -- list mode: nothing follows
-  pub listed-alone : (item : SignatureItem) → item ≡ signature_item.Absent → StreamWalk l d x item a xs ys
-  unfolding own_stream own elements_stream
-  listed-alone item e = go (eqb a.number 0) refl
-    where
-      go : (b : Bool) → eqb a.number 0 ≡ b → StreamWalk l d x item a xs ys
-      go true t =
-          let h = eqb-true a.number 0 t in
-          let q = (listed-read h).long in
-          let n = ap (λ (z : Answer). z.length) q in
-          rw e (follows h signature_item.Absent a ys (q ∙ sym (or-else-second (accepted 0) _ refl ∙ ap accepted (omega (arith, n)))) (λ z. refl) (λ z. omega arith))
-      go false t = all-refused item (eqb-false a.number 0 t)
-
-  pub all-written : (h : a.number ≡ 0) (item : SignatureItem) (inside : Extent) → item ≡ signature_item.Item inside
-      → (r : Answer) (zs : List ℕ) → FollowingWalk d inside a.length r ys zs → StreamWalk l d x item r xs zs
-  all-written h item inside e r zs o = rw e (follows h (signature_item.Item inside) r zs o.answers o.output o.short)
+    pub all-written : (item : Option Extent) (inside : Extent) → item ≡ Some inside → (r : Result ℕ Answer) (zs : List ℕ) → FollowingWalk d inside n r ys zs → StreamWalk l d x item r xs zs
+    all-written item inside e r zs o = rw e (follows (Some inside) r zs o.answers o.output o.short)

@@ -2,20 +2,23 @@
 use Prim.Native.Nat.{ℕ, ◌≤◌, ◌<◌}
 use native.Mathlib.Nat.{zero-add}
 use mathlib.Core.Path.{◌≡◌, refl, sym, ap, ◌∙◌}
-use mathlib.Core.Bool.{false}
+use mathlib.Core.Bool.{true, false}
 use mathlib.Core.List.{List}
 use native.Mathlib.Omega.{arith}
 use lib.Dec.{ltb}
 use lib.ListN.{length}
 use lib.Seq.{sets-eq}
-use borrow.Author.Tests.{lt-ltb, le-ltb, ltb-false, eq-eqb, ne_eqb}
+use borrow.Author.Tests.{lt-ltb, le-ltb, ltb-false}
 use Rattle.answer.specs.declared.Answer.{Answer}
 use Rattle.answer.specs.Answer.{accepted, refused, ◌or_else◌}
+use Rattle.std.specs.Prelude.{Option, Result, Ok, Err}
+use Rattle.answer.specs.Step.{step_by, test_by}
 use Rattle.answer.proofs.Laws.OrElse.{or-else-first, or-else-second, or-else-refuses, both-accepted, passed}
+use Rattle.answer.proofs.Laws.Steps.{step-accepted, step-is, step-passes, step-refuses, test-accepted}
+use Rattle.answer.proofs.Laws.Chains.{test-stops-step}
 use Rattle.dataset.specs.declared.extent.Extent.{Extent}
-use Rattle.stream.specs.Walk.{stream_in, answer_to15, measure, answer_from16, answer, left_in, WrittenAs}
+use Rattle.stream.specs.Walk.{stream_in, answer_to15, measure, answer_from16, answer, left_in, left_by, WrittenAs}
 use Rattle.stream.specs.Inner.Walk.{StreamWalk}
-use Rattle.stream.specs.declared.walk.SignatureItem.{SignatureItem}
 use Rattle.stream.proofs.Laws.Walk.Measuring.{first-accepts, measured-long, measure-walk}
 
 -- ---- where 16 is not given
@@ -27,70 +30,78 @@ pub from16-accepted : (stream : List ℕ) (room : ℕ) → ltb room (length stre
 unfolding answer_from16
 from16-accepted stream room h = or-else-second _ _ (rw h)
 
+from16-refused : (stream : List ℕ) (room : ℕ) → ltb room (length stream) ≡ true → answer_from16 stream room ≡ refused 16 0
+unfolding answer_from16
+from16-refused stream room h = rw h (or-else-first (refused 16 0) _ (λ z. omega arith))
+
 -- ---- the places of `write`
-module _ (l d : List ℕ) (x : Extent) (item : SignatureItem) (later : Answer) (out : List ℕ) where
+module _ (l d : List ℕ) (x : Extent) (item : Option Extent) (later : Result (Unit {0}) Answer) (out : List ℕ) where
   -- a refusal leaves the output alone
-  refuses : (a : Answer) → a ≡ answer l d x item later (length out) → (a.number ≡ 0 → ⊥) → WrittenAs l d x item later out a out
-  unfolding left_in
-  refuses a e h = record { answers = e; output = rw (ne_eqb a.number 0 h); short = λ z. absurd (h z) }
+  refuses : (f : Answer) → ((a : Answer) → later ≡ test_by a → Err f ≡ step_by (answer l d x item a (length out))) → WrittenAs l d x item later out (Err f) out
+  refuses f e = record { answers = e; output = refl; short = tt }
 
-  -- m is what measuring answers
-  module _ (m : Answer) (e : m ≡ measure l d x item) where
-    pub write-refused : (m.number ≡ 0 → ⊥) → WrittenAs l d x item later out m out
+  -- m is what measuring gives
+  module _ (m : Result ℕ Answer) (e : m ≡ step_by (measure l d x item)) where
+    pub write-refused : (f : Answer) → m ≡ Err f → WrittenAs l d x item later out (Err f) out
     unfolding measure answer
-    write-refused h = refuses m (e ∙ or-else-refuses (answer_to15 l d x item) _ _ refl (λ z. h (ap (λ (a : Answer). a.number) e ∙ z))) h
+    write-refused f h =
+        let s = step-is m (measure l d x item) e f h in
+        refuses f λ a q.
+        let y : measure l d x item ≡ answer l d x item a (length out) = or-else-refuses (answer_to15 l d x item) _ _ refl s.1 in
+        step-refuses f _ (s.0 ∙ y) (λ z. s.1 (ap (λ (b : Answer). b.number) y ∙ z))
 
-    module _ (h : m.number ≡ 0) where
+    module _ (n : ℕ) (h : m ≡ Ok n) where
       abbrev all : List ℕ
       all = stream_in l d x item
 
-      long : m.length ≡ length all
-      long = ap (λ (a : Answer). a.length) (measured-long l d x item m e h)
+      long : n ≡ length all
+      long = measured-long l d x item m e n h
 
       -- what follows 15
-      goes_on : answer l d x item later (length out) ≡ (later or_else answer_from16 all (length out))
+      goes_on : (a : Answer) → answer l d x item a (length out) ≡ (a or_else answer_from16 all (length out))
       unfolding answer
-      goes_on = or-else-second (answer_to15 l d x item) _ (first-accepts l d x item m e h)
+      goes_on a = or-else-second (answer_to15 l d x item) _ (first-accepts l d x item m e n h)
 
-      pub write-later : (later.number ≡ 0 → ⊥) → WrittenAs l d x item later out later out
-      write-later k = refuses later (sym (goes_on ∙ or-else-first later _ k)) k
+      pub write-later : (f : Answer) → later ≡ Err f → WrittenAs l d x item later out (Err f) out
+      write-later f k = refuses f λ a q. test-stops-step later a (answer_from16 all (length out)) q f k ∙ ap step_by (sym (goes_on a))
 
-      module _ (k : later.number ≡ 0) where
-        at-16 : answer l d x item later (length out) ≡ answer_from16 all (length out)
-        at-16 = goes_on ∙ or-else-second later _ k
+      module _ (u : Unit {0}) (k : later ≡ Ok u) where
+        at-16 : (a : Answer) → later ≡ test_by a → answer l d x item a (length out) ≡ answer_from16 all (length out)
+        at-16 a q = goes_on a ∙ or-else-second a _ (test-accepted later a q u k)
 
-        pub write-room : (a : Answer) → length out < m.length → a ≡ refused 16 0 → WrittenAs l d x item later out a out
-        unfolding answer_from16
-        write-room a j q =
-            refuses a
-            (q ∙ sym (at-16 ∙ rw (lt-ltb (length out) (length all) (omega (arith, long))) (or-else-first (refused 16 0) _ (λ z. omega arith))))
-            (λ z. let y : ◌≡◌ {A = ℕ} 16 0 = ap (λ (b : Answer). b.number) (sym q) ∙ z in omega arith)
+        pub write-room : (f : Answer) → length out < n → f ≡ refused 16 0 → WrittenAs l d x item later out (Err f) out
+        write-room f j w =
+            refuses f λ a q.
+            let y = at-16 a q ∙ from16-refused all (length out) (lt-ltb (length out) (length all) (omega (arith, long))) in
+            step-refuses f _ (w ∙ sym y) (λ z. let v : ◌≡◌ {A = ℕ} 16 0 = ap (λ (b : Answer). b.number) (sym y) ∙ z in omega arith)
 
-        pub write-written : (r : Answer) (ys : List ℕ) → StreamWalk l d x item r out ys → m.length ≤ length out → WrittenAs l d x item later out r ys
+        pub write-written : (r : Result ℕ Answer) (ys : List ℕ) → StreamWalk l d x item r out ys → n ≤ length out → WrittenAs l d x item later out r ys
         unfolding left_in
         write-written r ys w j =
-            let q : r ≡ accepted (length all) = w.answers ∙ sym (e ∙ measure-walk l d x item m e h) ∙ measured-long l d x item m e h in
-            let z : r.number ≡ 0 = ap (λ (b : Answer). b.number) q in
+            let q : r ≡ Ok (length all) = w.answers ∙ ap step_by (sym (measure-walk l d x item m e n h)) ∙ sym e ∙ h ∙ ap (λ (i : ℕ). Ok i) long in
             record {
-              answers = q ∙ sym (at-16 ∙ from16-accepted all (length out) (le-ltb (length out) (length all) (omega (arith, long))));
-              output = w.output z ∙ sets-eq all out 0 (omega (arith, long)) ∙ rw (eq-eqb r.number 0 z, zero-add (length all));
+              answers = λ a p.
+                  q ∙ step-passes (length all) _ (at-16 a p ∙ from16-accepted all (length out) (le-ltb (length out) (length all) (omega (arith, long))));
+              output = w.output (length all) q ∙ sets-eq all out 0 (omega (arith, long)) ∙ rw (q, zero-add (length all));
               short = w.short;
             }
 
 -- ---- what an accepted call says
-pub record Fits (stream out : List ℕ) (r : Answer) : Type 0 where
-  pub long : r.length ≡ length stream
-  pub room : r.length ≤ length out
+pub record Fits (stream out : List ℕ) (n : ℕ) : Type 0 where
+  pub long : n ≡ length stream
+  pub room : n ≤ length out
 
-pub written-fits : (l d : List ℕ) (x : Extent) (item : SignatureItem) (later : Answer) (out : List ℕ) (r : Answer) (after : List ℕ) → WrittenAs l d x item later out r after
-    → r.number ≡ 0 → Fits (stream_in l d x item) out r
+-- `a` is the answer of the caller's test
+pub written-fits : (l d : List ℕ) (x : Extent) (item : Option Extent) (later : Result (Unit {0}) Answer) (out : List ℕ) (r : Result ℕ Answer) (after : List ℕ)
+    → WrittenAs l d x item later out r after → (a : Answer) → later ≡ test_by a → (n : ℕ) → r ≡ Ok n → Fits (stream_in l d x item) out n
 unfolding answer
-written-fits l d x item later out r after w h =
+written-fits l d x item later out r after w a t n h =
     let all = stream_in l d x item in
-    let first = both-accepted (answer_to15 l d x item) (later or_else answer_from16 all (length out)) (ap (λ (a : Answer). a.number) (sym w.answers) ∙ h) in
-    let next = both-accepted later (answer_from16 all (length out)) first.second in
+    let s = step-accepted r (answer l d x item a (length out)) (w.answers a t) n h in
+    let first = both-accepted (answer_to15 l d x item) (a or_else answer_from16 all (length out)) s.0 in
+    let next = both-accepted a (answer_from16 all (length out)) first.second in
     let fits = from16-accepts all (length out) next.second in
-    let q : r ≡ accepted (length all) =
-    w.answers ∙ or-else-second (answer_to15 l d x item) _ first.first ∙ or-else-second later _ next.first ∙ from16-accepted all (length out) fits in
-    let n = ap (λ (a : Answer). a.length) q in
-    record { long = n; room = omega (arith, n, ltb-false (length out) (length all) fits) }
+    let q : answer l d x item a (length out) ≡ accepted (length all) =
+    or-else-second (answer_to15 l d x item) _ first.first ∙ or-else-second a _ next.first ∙ from16-accepted all (length out) fits in
+    let m = s.1 ∙ ap (λ (b : Answer). b.length) q in
+    record { long = m; room = omega (arith, m, ltb-false (length out) (length all) fits) }

@@ -1,19 +1,20 @@
 -- What one turn of the loop of `write_elements` does, with the facts of the place as premises. Assumes nothing.
 use Rattle.std.proofs.Common.{if◌then◌else◌}
-use Prim.Native.Nat.{ℕ, ◌+◌, ◌≤◌}
+use Prim.Native.Nat.{ℕ, ◌+◌}
 use mathlib.Core.Path.{◌≡◌, refl, sym}
 use mathlib.Core.Bool.{Bool, true, false, not, ◌||◌}
 use mathlib.Core.List.{List, [], ◌++◌}
-use lib.ListN.{length}
+use Rattle.std.specs.Prelude.{Ok}
 use Rattle.dataset.specs.Tree.{Element, and, tag_of}
 use Rattle.dataset.specs.Reading.{element}
+use Rattle.dataset.specs.Place.{Lies}
+use Rattle.dataset.specs.declared.extent.Extent.{Extent}
 use Rattle.stream.specs.TagList.{barred, unless_barred}
 use Rattle.stream.specs.Stream.{stream_of, elements_stream}
 use Rattle.stream.specs.UN.{is_un, holds_un, elements_hold_un}
 use Rattle.stream.specs.Inner.Keep.{keeps}
 use Rattle.stream.specs.Inner.Writer.{one_stream, OneWalk, ElementsWalk}
 use Rattle.stream.specs.declared.keep.Keep.TheVariants as keep
-use Rattle.stream.specs.declared.writer.Written.TheVariants as written
 use Rattle.stream.specs.declared.writer.OneWritten.{OneWritten}
 use Rattle.stream.specs.declared.writer.OneWritten.TheVariants as one
 use Rattle.stream.proofs.Laws.Writer.ElementsLoop.{Loop, loop-end, found_here, loop-again}
@@ -31,19 +32,19 @@ found_front : (d : List ℕ) (e : Element) (unknown holds : Bool) → is_un e �
     → Front elements_hold_un elements_stream d (and e) (one_stream (keeps keep.Unbarred) (element e) d) (unknown || holds)
 found_front d e unknown holds p q = rw (← p, ← q) (element-front d e)
 
-abbrev pub ElementsLoop : (d : List ℕ) (delimited : Bool) (left stop from : ℕ) (xs₀ : List ℕ) (to₀ : ℕ) (xs : List ℕ) (at least : ℕ) (found : Bool) (to : ℕ) → Type 0
-ElementsLoop d delimited left stop from xs₀ to₀ xs at least found to = Loop elements_hold_un elements_stream d delimited left stop from xs₀ to₀ xs at least found to
+abbrev pub ElementsLoop : (d : List ℕ) (x : Extent) (xs₀ : List ℕ) (to₀ : ℕ) (xs : List ℕ) (at least : ℕ) (found : Bool) (to : ℕ) → Type 0
+ElementsLoop d x xs₀ to₀ xs at least found to = Loop elements_hold_un elements_stream d x xs₀ to₀ xs at least found to
 
--- r is what the walk answers in an element's place, and ys what it leaves
-module _ (d : List ℕ) (delimited : Bool) (left stop from : ℕ) (xs₀ : List ℕ) (to₀ : ℕ) (xs : List ℕ) (at least : ℕ) (found : Bool) (to : ℕ) (r : OneWritten) (ys : List ℕ)
-    (w : OneWalk keep.Unbarred d delimited left stop at least to r xs ys) (i : ElementsLoop d delimited left stop from xs₀ to₀ xs at least found to) where
-  pub elements-end : (next : ℕ) → r ≡ one.End next → ElementsWalk d delimited left stop from to₀ (written.Past found next to) xs₀ ys
+-- r is what the walk gives in an element's place, and ys what it leaves
+module _ (d : List ℕ) (x : Extent) (xs₀ : List ℕ) (to₀ : ℕ) (xs : List ℕ) (at least : ℕ) (found : Bool) (to : ℕ) (ys : List ℕ)
+    (i : ElementsLoop d x xs₀ to₀ xs at least found to) (r : OneWritten) (w : OneWalk keep.Unbarred d x.delimited x.left x.stop at least to (Ok r) xs ys) where
+  pub elements-end : (next : ℕ) → r ≡ one.End next → ElementsWalk d x to₀ (Ok (record { holds_un = found; next = next; to = to })) xs₀ ys
   unfolding elements_stream elements_hold_un
-  elements-end next q = loop-end elements_hold_un elements_stream d delimited left stop from xs₀ to₀ xs at least found to keep.Unbarred r ys w i refl refl next q
+  elements-end next q = loop-end elements_hold_un elements_stream d x xs₀ to₀ xs at least found to keep.Unbarred ys i r w refl refl next q
 
-  pub elements-again : (tag : ℕ) (unknown holds : Bool) (next past : ℕ) → r ≡ one.Element tag unknown holds next past → stop ≤ length d
-      → ElementsLoop d delimited left stop from xs₀ to₀ ys next (tag + 1) (found || (unknown || holds)) past
+  pub elements-again : (tag : ℕ) (unknown holds : Bool) (next past : ℕ) → r ≡ one.Element tag unknown holds next past → Lies d x
+      → ElementsLoop d x xs₀ to₀ ys next (tag + 1) (found || (unknown || holds)) past
   elements-again tag unknown holds next past q l =
-      let e = found_here elements_hold_un elements_stream d delimited left stop from xs₀ to₀ xs at least found to keep.Unbarred r ys w i tag unknown holds next past q l in
-      loop-again elements_hold_un elements_stream d delimited left stop from xs₀ to₀ xs at least found to keep.Unbarred r ys w i tag unknown holds next past q l
+      let e = found_here elements_hold_un elements_stream d x xs₀ to₀ xs at least found to keep.Unbarred ys i r w tag unknown holds next past q l in
+      loop-again elements_hold_un elements_stream d x xs₀ to₀ xs at least found to keep.Unbarred ys i r w tag unknown holds next past q l
       (unknown || holds) (found_front d e.what unknown holds e.unknowns e.holding)

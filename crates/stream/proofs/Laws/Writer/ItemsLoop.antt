@@ -6,35 +6,35 @@ use mathlib.Core.List.{List, ◌++◌, append_assoc}
 use native.Mathlib.Omega.{arith}
 use lib.ListN.{length}
 use lib.Seq.{sets}
+use Rattle.std.specs.Prelude.{Ok, Err}
 use Rattle.answer.specs.declared.Answer.{Answer}
-use Rattle.dataset.specs.Header.{fault_at, item_case, item_at}
+use Rattle.dataset.specs.Header.{ItemHeader, item_at}
 use Rattle.dataset.specs.Tree.{Elements, last, item}
-use Rattle.dataset.specs.Reading.{Reading, fault, read, ◌>>=◌, explicit, by_item, elements_at, items_at, deeper}
-use Rattle.dataset.specs.declared.header.ItemHeader.{ItemHeader}
-use Rattle.dataset.specs.declared.header.ItemHeader.TheVariants as place
-use Rattle.dataset.proofs.Laws.Header.HeaderFacts.{ItemFacts}
+use Rattle.dataset.specs.Reading.{Reading, fault, read, ◌>>=◌, deeper}
+use Rattle.dataset.specs.Extent.{OpenedItem, elements_in, items_in, opened_by, opened_item, opened_case}
+use Rattle.dataset.specs.Place.{Lies}
+use Rattle.dataset.specs.declared.extent.Extent.{Extent}
+use Rattle.dataset.specs.declared.extent.OpenedItem as item_enum
+use Rattle.dataset.specs.declared.extent.OpenedItem.TheVariants as opened
+use Rattle.dataset.proofs.Laws.Extent.ItemsFrom.{items_from, items_refused, items-end, item-deep, item-lies, items-are-one, item-past}
+use Rattle.dataset.proofs.Laws.Header.HeaderFacts.{ItemFacts, item-facts}
 use Rattle.dataset.proofs.Laws.Reading.Levels.{deeper-falls}
-use Rattle.dataset.proofs.Laws.Reading.Unfolding.{items-by}
-use Rattle.dataset.proofs.Laws.Reading.Loops.{item-at}
 use Rattle.dataset.proofs.Laws.Reading.Guarantees.{holds_read, ElementsIn, elements-read}
 use Rattle.stream.specs.Stream.{item_tag_bytes, sequence_delimiter_bytes, elements_stream, items_stream}
 use Rattle.stream.specs.UN.{elements_hold_un, items_hold_un}
-use Rattle.stream.specs.Inner.Writer.{walked, Leaves, Walk}
+use Rattle.stream.specs.Inner.Writer.{walked, Leaves, ElementsWalk, ItemsWalk}
 use Rattle.stream.specs.declared.writer.Written.{Written}
-use Rattle.stream.specs.declared.writer.Written.TheVariants as written
 use Rattle.slices.proofs.Laws.Writing.{two_runs}
 use Rattle.stream.proofs.Laws.Writer.StreamLength.{elements-length}
 use Rattle.stream.proofs.Laws.Writer.Walks.{Front, Going, start, go_on, stop-at, done}
 
-pub record ItemsLoop (d : List ℕ) (delimited : Bool) (left stop from : ℕ) (xs₀ : List ℕ) (to₀ : ℕ) (xs : List ℕ) (at : ℕ) (found : Bool) (to : ℕ) : Type 0 where
-  pub inside : at ≤ stop
+pub record ItemsLoop (d : List ℕ) (x : Extent) (xs₀ : List ℕ) (to₀ : ℕ) (xs : List ℕ) (at : ℕ) (found : Bool) (to : ℕ) : Type 0 where
+  pub inside : at ≤ x.stop
   pub below : to + 4 ≤ at + length d
-  pub going : Going items_hold_un items_stream d (items_at explicit d delimited left stop from) to₀ xs₀ (items_at explicit d delimited left stop at) found to xs
+  pub going : Going items_hold_un items_stream d (items_in d x) to₀ xs₀ (items_from d x at) found to xs
 
-pub items-start : (d : List ℕ) (delimited : Bool) (left stop from : ℕ) (xs : List ℕ) (to : ℕ) → to + 4 ≤ from + length d → from ≤ stop
-    → ItemsLoop d delimited left stop from xs to xs from false to
-items-start d delimited left stop from xs to h k =
-    record { inside = k; below = h; going = start items_hold_un items_stream d (items_at explicit d delimited left stop from) to xs }
+pub items-start : (d : List ℕ) (x : Extent) (xs : List ℕ) (to : ℕ) → Lies d x → to + 4 ≤ x.from + length d → ItemsLoop d x xs to xs x.from false to
+items-start d x xs to l h = record { inside = l.order; below = h; going = start items_hold_un items_stream d (items_in d x) to xs }
 
 item-front : (d : List ℕ) (at : ℕ) (es : Elements) (unknown : Bool) → elements_hold_un es ≡ unknown
     → Front items_hold_un items_stream d (item at es) (item_tag_bytes ++ elements_stream es d) unknown
@@ -42,108 +42,102 @@ unfolding items_stream items_hold_un
 item-front d at es unknown e = record { streams = λ is. sym (append_assoc item_tag_bytes (elements_stream es d) (items_stream is d)); finds = λ is. rw e }
 
 -- ---- what the walk over an item's elements answers, and what it says of the reading
-is-fault : (p : Reading Elements) (d : List ℕ) (to : ℕ) (f : Answer) → walked elements_hold_un elements_stream p d to ≡ written.Refused f → p ≡ fault f
+is-fault : (p : Reading Elements) (d : List ℕ) (to : ℕ) (f : Answer) → walked elements_hold_un elements_stream p d to ≡ Err f → p ≡ fault f
 unfolding walked
 is-fault (fault g) d to f e = let q : g ≡ f = cc in ap fault q
 is-fault (read es n) d to f e = absurd (true≢false (cc))
 
-record IsRead (p : Reading Elements) (d : List ℕ) (to : ℕ) (unknown : Bool) (next past : ℕ) : Type 0 where
+record IsRead (p : Reading Elements) (d : List ℕ) (to : ℕ) (w : Written) : Type 0 where
   pub what : Elements
-  pub is : p ≡ read what next
-  pub holding : elements_hold_un what ≡ unknown
-  pub passes : past ≡ to + length (elements_stream what d)
+  pub is : p ≡ read what w.next
+  pub holding : elements_hold_un what ≡ w.holds_un
+  pub passes : w.to ≡ to + length (elements_stream what d)
 
-is_read : (p : Reading Elements) (d : List ℕ) (to : ℕ) (unknown : Bool) (next past : ℕ) → walked elements_hold_un elements_stream p d to ≡ written.Past unknown next past
-    → IsRead p d to unknown next past
+is_read : (p : Reading Elements) (d : List ℕ) (to : ℕ) (w : Written) → walked elements_hold_un elements_stream p d to ≡ Ok w → IsRead p d to w
 unfolding walked
-is_read (fault g) d to unknown next past e = absurd (true≢false (cc))
-is_read (read es n) d to unknown next past e = let q : n ≡ next = cc in record { what = es; is = ap (read es) q; holding = cc; passes = cc }
+is_read (fault g) d to w e = absurd (true≢false (cc))
+is_read (read es n) d to w e =
+    let k : record { holds_un = elements_hold_un es; next = n; to = to + length (elements_stream es d) } ≡ w = cc in
+    rw (← k) record { what = es; is = refl; holding = refl; passes = refl }
 
--- the walk's measure falls from a sequence's items to the elements of an item
-pub elements-fall : (left l t : ℕ) → 0 < left → l ≡ deeper left → 4 * left ≡ t → 4 * l + 3 < t
-elements-fall left l t h e q = let k = deeper-falls left h in omega (arith, k, e, q)
+-- ---- an item's data set lies behind its header
+starts-by : (d : List ℕ) (x : Extent) (at : ℕ) (p : ItemHeader) → ItemFacts d true x.delimited x.stop at p → (inside : Extent)
+    → opened_by x.left p ≡ OpenedItem.item inside → at + 8 ≤ inside.from
+starts-by d x at (ItemHeader.refused a) f inside q = absurd (true≢false (cc))
+starts-by d x at (ItemHeader.ends n) f inside q = absurd (true≢false (cc))
+starts-by d x at (ItemHeader.item start end inner) f inside q =
+    let k : record { delimited = inner; left = deeper x.left; stop = end; from = start } ≡ inside = cc in
+    rw (← k) (omega (arith, f.0.starts))
 
--- r is what stands at `at`
-module _ (d : List ℕ) (delimited : Bool) (left stop from : ℕ) (xs₀ : List ℕ) (to₀ : ℕ) (xs : List ℕ) (at : ℕ) (found : Bool) (to : ℕ)
-    (r : ItemHeader) (e : item_case r ≡ item_at d true delimited stop at) (i : ItemsLoop d delimited left stop from xs₀ to₀ xs at found to) where
-  here : (p : ItemHeader) → r ≡ p → ItemFacts d true delimited stop at (item_case p)
-  here p q = item-at d delimited stop at r e p q
+module _ (d : List ℕ) (x : Extent) (xs₀ : List ℕ) (to₀ : ℕ) (xs : List ℕ) (at : ℕ) (found : Bool) (to : ℕ) (i : ItemsLoop d x xs₀ to₀ xs at found to) where
+  pub loop-refused : (f : Answer) (ys : List ℕ) → opened_case (Err f) ≡ opened_item d x at → ItemsWalk d x to₀ (Err f) xs₀ ys
+  loop-refused f ys e =
+      stop-at items_hold_un items_stream d (items_in d x) to₀ xs₀ (items_from d x at) found to xs i.going f ys (items_refused d x at (Err f) e i.inside f refl)
 
-  items_at_lem : (p : ItemHeader) → r ≡ p → items_at explicit d delimited left stop at
-      ≡ by_item (λ inner end start. elements_at explicit d inner (deeper left) end start 0) (items_at explicit d delimited left stop) at (item_case p)
-  items_at_lem p q = items-by d delimited left stop at i.inside (item_case p) (sym e ∙ ap item_case q)
+  -- r is what stands at `at`
+  module _ (r : item_enum.OpenedItem) (e : opened_case (Ok r) ≡ opened_item d x at) where
+    pub loop-end : (next : ℕ) (ys : List ℕ) → r ≡ opened.End next → ys ≡ sets xs to sequence_delimiter_bytes
+        → ItemsWalk d x to₀ (Ok (record { holds_un = found; next = next; to = to + 4 })) xs₀ ys
+    unfolding items_stream items_hold_un
+    loop-end next ys q y =
+        done items_hold_un items_stream d (items_in d x) to₀ xs₀ (items_from d x at) found to xs i.going last next (to + 4) ys
+        (items-end d x at (Ok r) e i.inside next (ap Ok q)) refl refl y
 
-  pub items_refused : (number position : ℕ) (f : Answer) (ys : List ℕ) → r ≡ place.Refused number position → f ≡ fault_at number position
-      → Walk (walked items_hold_un items_stream) items_stream (items_at explicit d delimited left stop from) d to₀ (written.Refused f) xs₀ ys
-  unfolding by_item
-  items_refused number position f ys q g =
-      stop-at items_hold_un items_stream d (items_at explicit d delimited left stop from) to₀ xs₀ (items_at explicit d delimited left stop at) found to xs i.going f ys
-      (items_at_lem (place.Refused number position) q ∙ ap fault (sym g))
+    module _ (inside : Extent) (q : r ≡ opened.Item inside) where
+      starts : at + 8 ≤ inside.from
+      unfolding opened_item
+      starts =
+          starts-by d x at (item_at d true x.delimited x.stop at) (item-facts d true x.delimited x.stop at) inside
+          (sym e ∙ ap (λ (h : item_enum.OpenedItem). opened_case (Ok h)) q)
 
-  pub items-end : (next : ℕ) (ys : List ℕ) → r ≡ place.End next → ys ≡ sets xs to sequence_delimiter_bytes
-      → Walk (walked items_hold_un items_stream) items_stream (items_at explicit d delimited left stop from) d to₀ (written.Past found next (to + 4)) xs₀ ys
-  unfolding by_item items_stream items_hold_un
-  items-end next ys q y =
-      done items_hold_un items_stream d (items_at explicit d delimited left stop from) to₀ xs₀ (items_at explicit d delimited left stop at) found to xs i.going last next (to + 4) ys
-      (items_at_lem (place.End next) q) refl refl y
+      pub inside-lies : Lies d x → Lies d inside
+      inside-lies l = item-lies d x at (Ok r) e inside (ap Ok q) l.inside
 
-  module _ (start end : ℕ) (inner : Bool) (q : r ≡ place.Item start end inner) where
-    pub item-order : start ≤ end
-    item-order = (here (place.Item start end inner) q).0.order
+      -- the walk's measure falls from a sequence's items to the elements of an item
+      pub inside_falls : (t : ℕ) → 0 < x.left → 4 * x.left ≡ t → 4 * inside.left + 3 < t
+      inside_falls t h z = let k = deeper-falls x.left h in omega (arith, k, item-deep d x at (Ok r) e inside (ap Ok q), z)
 
-    pub item-inside : (n : ℕ) → stop ≤ n → end ≤ n
-    item-inside n l = omega (arith, (here (place.Item start end inner) q).0.inside)
+      pub inside_room : to + 4 ≤ inside.from + length d
+      inside_room = omega (arith, starts, i.below)
 
-    pub item_room : to + 4 ≤ start + length d
-    item_room = omega (arith, (here (place.Item start end inner) q).0.starts, i.below)
+      pub inside-refused : (f : Answer) (ys zs : List ℕ) → ElementsWalk d inside (to + 4) (Err f) ys zs → ItemsWalk d x to₀ (Err f) xs₀ zs
+      inside-refused f ys zs w =
+          stop-at items_hold_un items_stream d (items_in d x) to₀ xs₀ (items_from d x at) found to xs i.going f zs
+          (items-are-one d x at (Ok r) e inside (ap Ok q) i.inside ∙ rw (is-fault (elements_in d inside) d (to + 4) f (sym w.answers)))
 
-    -- o is what the walk over the item's elements answers, and zs what it leaves
-    module _ (l : stop ≤ length d) (levels : ℕ) (deep : levels ≡ deeper left) (ys zs : List ℕ) (o : Written)
-        (v : Walk (walked elements_hold_un elements_stream) elements_stream (elements_at explicit d inner levels end start 0) d (to + 4) o ys zs) where
-      w : Walk (walked elements_hold_un elements_stream) elements_stream (elements_at explicit d inner (deeper left) end start 0) d (to + 4) o ys zs
-      w = rw deep at v
+      -- o is what the walk over the item's elements gives, and zs what it leaves
+      module _ (o : Written) (ys zs : List ℕ) (w : ElementsWalk d inside (to + 4) (Ok o) ys zs) where
+        elements-found : IsRead (elements_in d inside) d (to + 4) o
+        elements-found = is_read (elements_in d inside) d (to + 4) o (sym w.answers)
 
-      pub item_refused : (f : Answer) → o ≡ written.Refused f
-          → Walk (walked items_hold_un items_stream) items_stream (items_at explicit d delimited left stop from) d to₀ (written.Refused f) xs₀ zs
-      unfolding by_item
-      item_refused f x =
-          stop-at items_hold_un items_stream d (items_at explicit d delimited left stop from) to₀ xs₀ (items_at explicit d delimited left stop at) found to xs i.going f zs
-          (items_at_lem (place.Item start end inner) q ∙ rw (is-fault (elements_at explicit d inner (deeper left) end start 0) d (to + 4) f (sym w.answers ∙ x)))
+        past : (at < o.next) × (o.next ≤ x.stop)
+        past = item-past d x at (Ok r) e inside (ap Ok q) elements-found.what o.next elements-found.is
 
-      module _ (unknown : Bool) (next past : ℕ) (x : o ≡ written.Past unknown next past) where
-        elements-found : IsRead (elements_at explicit d inner (deeper left) end start 0) d (to + 4) unknown next past
-        elements-found = is_read (elements_at explicit d inner (deeper left) end start 0) d (to + 4) unknown next past (sym w.answers ∙ x)
+        pub item-less : x.stop - o.next < x.stop - at
+        item-less = omega (arith, past)
 
-        elements_lie : ElementsIn d inner (deeper left) end 0 start elements-found.what next
-        elements_lie =
-            holds_read (ElementsIn d inner (deeper left) end 0 start) (elements_at explicit d inner (deeper left) end start 0) elements-found.what next
-            (elements-read d (deeper left) end start (item-inside (length d) l) inner 0) elements-found.is
-
-        pub item-less : stop - next < stop - at
-        item-less =
-            let k = (here (place.Item start end inner) q).0 in
-            omega (arith, k.starts, k.inside, elements_lie.order, elements_lie.inside)
-
-        item-next : items_at explicit d delimited left stop at ≡ (items_at explicit d delimited left stop next >>= λ y. read (item at elements-found.what y.0) y.1)
-        unfolding by_item
-        item-next = items_at_lem (place.Item start end inner) q ∙ rw elements-found.is
+        item-next : items_from d x at ≡ (items_from d x o.next >>= λ (rest, after). read (item at elements-found.what rest) after)
+        item-next = items-are-one d x at (Ok r) e inside (ap Ok q) i.inside ∙ rw elements-found.is
 
         elements-output : zs ≡ sets ys (to + 4) (elements_stream elements-found.what d)
         unfolding Leaves
         elements-output = subst (λ (p : Reading Elements). Leaves elements_stream p d (to + 4) ys zs) elements-found.is w.output
 
-        pub item-again : ys ≡ sets xs to item_tag_bytes → ItemsLoop d delimited left stop from xs₀ to₀ zs next (found || unknown) past
-        item-again y =
-            let k = (here (place.Item start end inner) q).0 in
+        pub item-again : Lies d x → ys ≡ sets xs to item_tag_bytes → ItemsLoop d x xs₀ to₀ zs o.next (found || o.holds_un) o.to
+        item-again l y =
             let f = elements-found in
-            let m = elements-length f.what d (deeper left) 0 start next elements_lie.tree in
+            let j = inside-lies l in
+            let k : ElementsIn d inside.delimited inside.left inside.stop 0 inside.from f.what o.next =
+            holds_read (ElementsIn d inside.delimited inside.left inside.stop 0 inside.from) (elements_in d inside) f.what o.next
+            (elements-read d inside.left inside.stop inside.from j.inside inside.delimited 0) f.is in
+            let m = elements-length f.what d inside.left 0 inside.from o.next k.tree in
+            let b = m.1 in
             let t : to + length (item_tag_bytes ++ elements_stream f.what d) ≡ to + 4 + length (elements_stream f.what d) = omega arith in
             record {
-              inside = omega (arith, elements_lie.inside, k.inside);
-              below = omega (arith, k.starts, i.below, f.passes, m, elements_lie.order);
-              going =
-                  (go_on items_hold_un items_stream d (items_at explicit d delimited left stop from) to₀ xs₀ (items_at explicit d delimited left stop at) found to xs i.going
-                  (item at f.what) (item_tag_bytes ++ elements_stream f.what d) unknown (item-front d at f.what unknown f.holding)
-                  (items_at explicit d delimited left stop next) _ (λ is j. refl) item-next past zs (f.passes ∙ sym t)
-                  (two_runs xs item_tag_bytes (elements_stream f.what d) to 4 ys zs refl y elements-output));
+              inside = past.1;
+              below = omega (arith, starts, i.below, f.passes, b, k.order);
+              going = go_on items_hold_un items_stream d (items_in d x) to₀ xs₀ (items_from d x at) found to xs i.going
+                  (item at f.what) (item_tag_bytes ++ elements_stream f.what d) o.holds_un (item-front d at f.what o.holds_un f.holding)
+                  (items_from d x o.next) _ (λ is n. refl) item-next o.to zs (f.passes ∙ sym t)
+                  (two_runs xs item_tag_bytes (elements_stream f.what d) to 4 ys zs refl y elements-output);
             }

@@ -7,6 +7,7 @@ use mathlib.Core.List.{List, []}
 use native.Mathlib.Omega.{arith}
 use lib.ListN.{length}
 use lib.Seq.{sets}
+use Rattle.std.specs.Prelude.{Result, Ok, Err}
 use Rattle.answer.specs.declared.Answer.{Answer}
 use Rattle.dataset.specs.Tree.{Element, Elements, and, tag_of}
 use Rattle.dataset.specs.Reading.{Reading, fault, read, ◌>>=◌, One, ended, element, explicit, by_one, elements_at, one_at}
@@ -19,13 +20,13 @@ use Rattle.stream.specs.declared.writer.OneWritten.{OneWritten}
 use Rattle.stream.specs.declared.writer.OneWritten.TheVariants as one
 use Rattle.stream.proofs.Laws.Writer.StreamLength.{element-length}
 
-is-fault : (kept : ℕ → Bool) (p : Reading One) (d : List ℕ) (to : ℕ) (f : Answer) → one_walked kept p d to ≡ one.Refused f → p ≡ fault f
+is-fault : (kept : ℕ → Bool) (p : Reading One) (d : List ℕ) (to : ℕ) (f : Answer) → one_walked kept p d to ≡ Err f → p ≡ fault f
 unfolding one_walked
 is-fault kept (fault g) d to f e = let q : g ≡ f = cc in ap fault q
 is-fault kept (read ended n) d to f e = absurd (true≢false (cc))
 is-fault kept (read (element x) n) d to f e = absurd (true≢false (cc))
 
-is-end : (kept : ℕ → Bool) (p : Reading One) (d : List ℕ) (to next : ℕ) → one_walked kept p d to ≡ one.End next → p ≡ read ended next
+is-end : (kept : ℕ → Bool) (p : Reading One) (d : List ℕ) (to next : ℕ) → one_walked kept p d to ≡ Ok (one.End next) → p ≡ read ended next
 unfolding one_walked
 is-end kept (fault g) d to next e = absurd (true≢false (cc))
 is-end kept (read ended n) d to next e = let q : n ≡ next = cc in ap (read ended) q
@@ -40,7 +41,7 @@ pub record IsElement (kept : ℕ → Bool) (p : Reading One) (d : List ℕ) (to 
   pub passes : past ≡ to + length (one_stream kept (element what) d)
 
 is-element : (kept : ℕ → Bool) (p : Reading One) (d : List ℕ) (to tag : ℕ) (unknown holds : Bool) (next past : ℕ)
-    → one_walked kept p d to ≡ one.Element tag unknown holds next past → IsElement kept p d to tag unknown holds next past
+    → one_walked kept p d to ≡ Ok (one.Element tag unknown holds next past) → IsElement kept p d to tag unknown holds next past
 unfolding one_walked
 is-element kept (fault g) d to tag unknown holds next past e = absurd (true≢false (cc))
 is-element kept (read ended n) d to tag unknown holds next past e = absurd (true≢false (cc))
@@ -62,12 +63,12 @@ unfolding by_one
 by-element elements e next tag t = rw t
 
 -- r is what the walk answers in an element's place, and ys what it leaves
-module _ (kept : ℕ → Bool) (d : List ℕ) (delimited : Bool) (left stop at least to : ℕ) (r : OneWritten) (xs ys : List ℕ) (h : at ≤ stop)
+module _ (kept : ℕ → Bool) (d : List ℕ) (delimited : Bool) (left stop at least to : ℕ) (r : Result OneWritten Answer) (xs ys : List ℕ) (h : at ≤ stop)
     (w : Walk (one_walked kept) (one_stream kept) (one_at explicit d delimited left stop at least) d to r xs ys) where
-  pub one-fault : (f : Answer) → r ≡ one.Refused f → elements_at explicit d delimited left stop at least ≡ fault f
+  pub one-fault : (f : Answer) → r ≡ Err f → elements_at explicit d delimited left stop at least ≡ fault f
   one-fault f q = elements-by d delimited left stop at least h (fault f) (is-fault kept (one_at explicit d delimited left stop at least) d to f (sym w.answers ∙ q))
 
-  module _ (next : ℕ) (q : r ≡ one.End next) where
+  module _ (next : ℕ) (q : r ≡ Ok (one.End next)) where
     ended_here : one_at explicit d delimited left stop at least ≡ read ended next
     ended_here = is-end kept (one_at explicit d delimited left stop at least) d to next (sym w.answers ∙ q)
 
@@ -78,7 +79,7 @@ module _ (kept : ℕ → Bool) (d : List ℕ) (delimited : Bool) (left stop at l
     unfolding Leaves one_stream
     end-output = subst (λ (p : Reading One). Leaves (one_stream kept) p d to xs ys) ended_here w.output
 
-  module _ (tag : ℕ) (unknown holds : Bool) (next past : ℕ) (q : r ≡ one.Element tag unknown holds next past) where
+  module _ (tag : ℕ) (unknown holds : Bool) (next past : ℕ) (q : r ≡ Ok (one.Element tag unknown holds next past)) where
     pub one_found : IsElement kept (one_at explicit d delimited left stop at least) d to tag unknown holds next past
     one_found = is-element kept (one_at explicit d delimited left stop at least) d to tag unknown holds next past (sym w.answers ∙ q)
 

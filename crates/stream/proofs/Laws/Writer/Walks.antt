@@ -6,17 +6,17 @@ use mathlib.Core.List.{List, ◌++◌}
 use native.Mathlib.Omega.{arith}
 use lib.ListN.{length, length-append}
 use lib.Seq.{sets, length-sets}
+use Rattle.std.specs.Prelude.{Result, Ok, Err}
 use Rattle.answer.specs.declared.Answer.{Answer}
 use Rattle.dataset.specs.Reading.{Reading, fault, read, ◌>>=◌}
 use Rattle.stream.specs.Inner.Writer.{walked, Leaves, Walk}
 use Rattle.stream.specs.declared.writer.Written.{Written}
-use Rattle.stream.specs.declared.writer.Written.TheVariants as written
 use Rattle.slices.proofs.Laws.Writing.{sets-append}
 
 -- UN was found before
-unfoldable pub with_found : Bool → Written → Written
-with_found found (written.Refused f) = written.Refused f
-with_found found (written.Past unknown next to) = written.Past (found || unknown) next to
+unfoldable pub with_found : Bool → Result Written Answer → Result Written Answer
+with_found found (Err f) = Err f
+with_found found (Ok w) = Ok (record { holds_un = found || w.holds_un; next = w.next; to = w.to })
 
 pub or_assoc : (a b c : Bool) → ((a || b) || c) ≡ (a || (b || c))
 or_assoc true b c = refl
@@ -26,15 +26,15 @@ or-none : (a : Bool) → (a || false) ≡ a
 or-none true = refl
 or-none false = refl
 
-found-twice : (a b : Bool) (r : Written) → with_found a (with_found b r) ≡ with_found (a || b) r
+found-twice : (a b : Bool) (r : Result Written Answer) → with_found a (with_found b r) ≡ with_found (a || b) r
 unfolding with_found
-found-twice a b (written.Refused f) = refl
-found-twice a b (written.Past u n t) = rw or_assoc
+found-twice a b (Err f) = refl
+found-twice a b (Ok w) = rw or_assoc
 
-found_none : (r : Written) → with_found false r ≡ r
+found_none : (r : Result Written Answer) → with_found false r ≡ r
 unfolding with_found
-found_none (written.Refused f) = refl
-found_none (written.Past u n t) = refl
+found_none (Err f) = refl
+found_none (Ok w) = refl
 
 module _ {A : Type 0} (unknown : A → Bool) (stream : A → List ℕ → List ℕ) (d : List ℕ) where
   -- one more in front of what is read: `bytes` in front of the stream, and whether it is or holds UN
@@ -80,11 +80,11 @@ module _ {A : Type 0} (unknown : A → Bool) (stream : A → List ℕ → List �
             long = length-sets xs to bytes ∙ g.long;
           }
 
-      pub stop-at : (f : Answer) (ys : List ℕ) → p ≡ fault f → Walk (walked unknown stream) stream p₀ d to₀ (written.Refused f) xs₀ ys
+      pub stop-at : (f : Answer) (ys : List ℕ) → p ≡ fault f → Walk (walked unknown stream) stream p₀ d to₀ (Err f) xs₀ ys
       unfolding walked with_found Leaves
       stop-at f ys w = record { answers = sym (g.answers ∙ rw w); output = g.output ys (rw w tt) }
 
       pub done : (a : A) (next to' : ℕ) (ys : List ℕ) → p ≡ read a next → unknown a ≡ false → to' ≡ to + length (stream a d) → ys ≡ sets xs to (stream a d)
-          → Walk (walked unknown stream) stream p₀ d to₀ (written.Past found next to') xs₀ ys
+          → Walk (walked unknown stream) stream p₀ d to₀ (Ok (record { holds_un = found; next = next; to = to' })) xs₀ ys
       unfolding walked with_found Leaves
       done a next to' ys w u t y = record { answers = sym (g.answers ∙ rw (w, u, or-none found, t)); output = g.output ys (rw w y) }

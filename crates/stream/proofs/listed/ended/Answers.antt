@@ -2,8 +2,8 @@
 use Rattle.stream.proofs.Laws.Listed.MergeArms as steps
 use Rattle.stream.proofs.listed.ended.Goals as goal
 
-pub returns-then-list-index : goal.returns-then-list-index
-returns-then-list-index c = search steps.ended-none
+pub returns-then-list-before : goal.returns-then-list-before
+returns-then-list-before c = search steps.ended-none
 
 pub returns : goal.returns
 returns c = search steps.ended-absent

@@ -1,17 +1,22 @@
+use Rattle.std.proofs.lemmas.Result.{err_from_is_err_and}
 use Rattle.stream.proofs.Laws.Listed.WalkListLoop as steps
 use Rattle.stream.proofs.listed.walk_list.Goals as goal
 
-pub loop-fault-init : goal.loop-fault-init
-loop-fault-init c = search steps.list-start
+pub loop-one-init : goal.loop-one-init
+loop-one-init c = search steps.list-start
 
-pub returns-in-Refused : goal.returns-in-Refused
-returns-in-Refused c = search steps.list-refused
+pub write_one-requires : goal.write_one-requires
+write_one-requires c = (search steps.list-room, search steps.list-lies)
+
+pub returns-in_err-one : goal.returns-in_err-one
+returns-in_err-one c =
+    let p = err_from_is_err_and c.from_residual.result c.from_residual.ensures.1 in rw (p.1, p.2) (search (steps.list-refused, c.in_err-one.was))
 
 pub returns-in-End : goal.returns-in-End
-returns-in-End c = search steps.list-end
+returns-in-End c = search (steps.list-end, c.in_ok-one.was)
 
-pub loop-fault-smaller : goal.loop-fault-smaller
-loop-fault-smaller c = search steps.list-less
+pub loop-one-smaller : goal.loop-one-smaller
+loop-one-smaller c = search (steps.list-less, c.in_ok-one.was)
 
-pub loop-fault-preserved : goal.loop-fault-preserved
-loop-fault-preserved c = search steps.list-again
+pub loop-one-preserved : goal.loop-one-preserved
+loop-one-preserved c = search (steps.list-again, c.in_ok-one.was)

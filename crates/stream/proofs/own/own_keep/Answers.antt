@@ -1,15 +1,16 @@
--- `own_keep` meets its contract: each arm by its law in OwnLoop. Assumes nothing.
-use Rattle.stream.proofs.Laws.Own.OwnLoop as steps
+-- `own_keep` meets its contract. Assumes nothing.
+use Rattle.std.proofs.Common.{rules}
+use Rattle.stream.specs.Inner.Own.{own_keep}
 use Rattle.stream.proofs.own.own_keep.Goals as goal
 
 pub returns-then-is_left_out : goal.returns-then-is_left_out
-returns-then-is_left_out c = search steps.out-keep
-
-pub returns-in-Refused : goal.returns-in-Refused
-returns-in-Refused c = search steps.refused-keep
+unfolding own_keep
+returns-then-is_left_out c = search rules
 
 pub returns-in-End : goal.returns-in-End
-returns-in-End c = search steps.end-keep
+unfolding own_keep
+returns-in-End c = search rules
 
 pub returns-else-is_left_out : goal.returns-else-is_left_out
-returns-else-is_left_out c = search steps.only-keep
+unfolding own_keep
+returns-else-is_left_out c = search rules

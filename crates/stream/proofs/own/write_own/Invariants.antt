@@ -3,8 +3,8 @@ use Rattle.std.proofs.Common.{◌-◌}
 use Rattle.stream.proofs.Laws.Own.OwnLoop as steps
 use Rattle.stream.proofs.own.write_own.Given as goal
 
-abbrev pub invariant-loop-fault : goal.invariant-loop-fault
-invariant-loop-fault l = steps.OwnLoop l.d l.x l.initial.out l.onto l.out l.at l.least l.to
+abbrev pub invariant-loop-seen : goal.invariant-loop-seen
+invariant-loop-seen l = steps.OwnLoop l.d l.x l.initial.out l.onto l.out l.at l.least l.to
 
-abbrev pub decreases-loop-fault : goal.decreases-loop-fault
-decreases-loop-fault l = l.x.stop - l.at
+abbrev pub decreases-loop-seen : goal.decreases-loop-seen
+decreases-loop-seen l = l.x.stop - l.at
