@@ -53,12 +53,7 @@ fn write_selected(
 }
 
 // The stream of a signature in a data set, with its length.
-fn streamed(
-    uid: &[u8],
-    which: Option<u64>,
-    d: &[u8],
-    out: &mut [u8],
-) -> Result<usize, Answer>
+fn streamed(uid: &[u8], which: Option<u64>, d: &[u8], out: &mut [u8]) -> Result<usize, Answer>
     ensures { CallAnswered (signature_call uid.now which d.now out.old) None limit out.old result out.new }
 {
     let selected = select_whole(uid, which, d)?;

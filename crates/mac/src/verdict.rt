@@ -50,13 +50,15 @@ fn digest_by(algorithm: Algorithm, message: &[u8]) -> Hashed
 pub(crate) fn length_answer(algorithm: Algorithm, expected: Option<usize>) -> Result<(), Answer>
     ensures { result ≡ test_by (length_answer algorithm expected) }
 {
-    let Some(length) = expected else {
-        return Ok(());
-    };
-    if length != digest_length(algorithm) {
-        return Err(Refusal::DigestLength.at(0));
+    match expected {
+        None => Ok(()),
+        Some(length) => {
+            if length != digest_length(algorithm) {
+                return Err(Refusal::DigestLength.at(0));
+            }
+            Ok(())
+        }
     }
-    Ok(())
 }
 
 // What a check says of the digest of its stream.

@@ -2,24 +2,26 @@
 use Rattle.std.proofs.Common.{if◌then◌else◌}
 use Prim.Native.Nat.{ℕ, ◌+◌, ◌≤◌}
 use mathlib.Core.Path.{◌≡◌, refl, sym, ap, ◌∙◌}
-use mathlib.Core.Bool.{true≢false}
-use mathlib.Core.List.{List}
+use mathlib.Core.Bool.{Bool, true, false, true≢false}
+use mathlib.Core.List.{List, ◌++◌}
 use mathlib.Core.Option.{Option, some}
 use mathlib.Core.Option as Opt
 use native.Mathlib.Omega.{arith}
-use lib.ListN.{length}
+use lib.ListN.{length, drop}
+use lib.Dec.{eqb}
 use borrow.Author.Tests.{ne_eqb}
 use Rattle.answer.specs.declared.Answer.{Answer}
 use Rattle.answer.specs.Answer.{accepted, refused, ◌or_else◌}
 use Rattle.answer.specs.Step.{step_by, test_by}
 use Rattle.answer.proofs.Laws.OrElse.{refused-first}
+use Rattle.std.proofs.lemmas.Result.{IfOk-at_ok}
 use Rattle.answer.proofs.Laws.Steps.{IsWhole, whole-accepted, whole-behind, step-before}
 use Rattle.std.specs.Prelude as prelude
 use Rattle.std.specs.Prelude.{Ok, Err}
 use Rattle.dataset.specs.declared.extent.Extent.{Extent}
 use Rattle.stream.specs.Walk.{answer_from16, left_in, left_by, WrittenAs}
 use Rattle.stream.specs.Walk as walk
-use Rattle.stream.proofs.Laws.Walk.WriteMeasured.{written-fits}
+use Rattle.stream.proofs.Laws.Walk.WriteMeasured.{Fits, written-fits}
 use Rattle.selection.specs.declared.select.Algorithm.{Algorithm}
 use Rattle.selection.specs.declared.select.Algorithm.TheVariants as algorithm
 use Rattle.mac.specs.Modes.{bad_digest_length, answer_from9}
@@ -31,6 +33,15 @@ use Rattle.mac.specs.Inner.Calls.{CallAnswered}
 nine : (of : Algorithm) (expected : Option (List ℕ)) → (if bad_digest_length expected then refused 9 0 else accepted 0) ≡ length_answer of (length_of expected)
 nine of Opt.none = refl
 nine algorithm.Sha256 (some e) = refl
+
+-- what a step leaves, by its answer
+left-step : (a : Answer) (stream out : List ℕ) → left_by (step_by a) stream out ≡ left_in a stream out
+unfolding step_by left_in
+left-step a stream out = go (eqb a.number 0) refl
+  where
+    go : (t : Bool) → eqb a.number 0 ≡ t → left_by (if t then Ok a.length else Err a) stream out ≡ (if t then stream ++ drop (length stream) out else out)
+    go true e = refl
+    go false e = refl
 
 -- ---- a call with this stream whose order up to 15 comes to `first`
 abbrev pub call_of : (first : Answer) (stream : List ℕ) (room : ℕ) → Option (List ℕ) → Result
@@ -68,6 +79,7 @@ module _ (first : Answer) (stream : List ℕ) where
     unfolding output_after walk.answer answer_from9
     call-written of given most out k later q r ys t =
         let from16 = answer_from16 stream (length out) in
+        let fits : (n : ℕ) → r ≡ Ok n → Fits (walk.stream_in l d x item) out n = written-fits l d x item later out r ys t (length_answer of given) q in
         let same : (expected : Option (List ℕ)) → length_of expected ≡ given → r ≡ step_by (first or_else answer_from9 stream (length out) expected) =
         λ expected g.
         t.answers (length_answer of given) q ∙ ap (λ (a : Answer). step_by (a or_else length_answer of given or_else answer_from16 (walk.stream_in l d x item) (length out))) (sym e)
@@ -79,7 +91,7 @@ module _ (first : Answer) (stream : List ℕ) where
             output = t.output ∙ ap (λ (b : List ℕ). left_by r b out) (sym s) ∙ ap (λ (v : prelude.Result ℕ Answer). left_by v stream out) (same expected g)
                 ∙ left-step _ stream out;
           };
-          long = λ expected n z. ?;
-          room = λ n z. ?;
-          short = λ n z. ?;
+          long = λ expected n z. (fits n z).long ∙ ap length (sym s);
+          room = λ n z. (fits n z).room;
+          short = λ n z. let h : n ≤ length d + length d = IfOk-at_ok (λ m. m ≤ length d + length d) z t.short in omega (arith, h);
         }

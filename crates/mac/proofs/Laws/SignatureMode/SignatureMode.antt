@@ -12,7 +12,7 @@ use Rattle.answer.specs.Answer.{accepted, refused, ◌or_else◌}
 use Rattle.answer.specs.Step.{step_by, test_by, answer_by}
 use Rattle.answer.proofs.Laws.Steps.{IsWhole, whole-accepted, whole-behind, step-answer, step-before, test-is, test-refused}
 use Rattle.std.specs.Prelude as prelude
-use Rattle.std.specs.Prelude.{Some, None, Ok, Err}
+use Rattle.std.specs.Prelude.{Some, None, Ok, Err, IfOk}
 use Rattle.answer.proofs.Laws.OrElse.{or-else-first, or-else-second, refused-first}
 use Rattle.slices.specs.Lists.{between}
 use Rattle.dataset.specs.Tree.{Elements}
@@ -210,7 +210,7 @@ module _ (uid : List ℕ) (which : prelude.Option ℕ) (d : List ℕ) (v : prelu
           call-written (answer_to15 uid which d) (stream_in uid which d) (list_in d s) d s.signed (Some s.item) k.answers k.stream-is s.algorithm given limit out
           (omega (arith, k.small)) _ refl r after w
 
-      pub selected-room : length after ≡ length out → (n : ℕ) → r ≡ Ok n → n ≤ length after
+      pub selected-room : length after ≡ length out → IfOk r (λ n. n ≤ length after)
       selected-room = call-room (signature_call uid which d out) d out after r given selected-call
 
     pub selected-checked : (expected work : List ℕ) (w : prelude.Result ℕ Answer) (after : List ℕ) → SelectedWritten d s (length_of (some expected)) work w after

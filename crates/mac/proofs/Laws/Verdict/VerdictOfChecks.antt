@@ -27,7 +27,7 @@ use Rattle.mac.specs.Inner.Calls.{Left, CallAnswered}
 use Rattle.answer.specs.Step.{test_by, answer_by}
 use Rattle.answer.proofs.Laws.Steps.{IsWhole, step-answer, step-is, step-accepted}
 use Rattle.std.specs.Prelude as prelude
-use Rattle.std.specs.Prelude.{Some, None, Ok, Err, is_none}
+use Rattle.std.specs.Prelude.{Some, None, Ok, Err, IfOk}
 use Rattle.mac.specs.declared.verdict.Verdict.{Verdict}
 use Rattle.mac.specs.declared.verdict.Checked.{Checked}
 
@@ -40,9 +40,9 @@ sha256-digest algorithm.Sha256 m g q = q
 
 -- ---- 9
 module _ (of : Algorithm) (e : prelude.Option ℕ) where
-  pub length_none : (is_none e ≡ true) → Ok tt ≡ test_by (length_answer of e)
+  pub length_none : e ≡ None → Ok tt ≡ test_by (length_answer of e)
   unfolding test_by
-  length_none q = ?
+  length_none q = rw q
 
   module _ (n right : ℕ) (q : e ≡ Some n) (w : right ≡ digest_length of) where
     pub length-wrong : (a : Answer) → (n ≡ right → ⊥) → a ≡ refused 9 0 → Err a ≡ test_by (length_answer of e)
@@ -87,8 +87,12 @@ module _ (call : Option (List ℕ) → Result) (d out after : List ℕ) (r : pre
       let t = s.streamed Opt.none refl in
       record { answers = e ∙ step-answer r (call Opt.none).answer t.answers w; output = t.output; bytes = λ i. (b i).fits }
 
-  pub call-room : (given : prelude.Option ℕ) → CallAnswered call given limit out r after → length after ≡ length out → (n : ℕ) → r ≡ Ok n → n ≤ length after
-  call-room given s k n q = omega (arith, s.room n q)
+  pub call-room : (given : prelude.Option ℕ) → CallAnswered call given limit out r after → length after ≡ length out → IfOk r (λ n. n ≤ length after)
+  call-room given s k = go r refl
+    where
+      go : (v : prelude.Result ℕ Answer) → r ≡ v → IfOk v (λ n. n ≤ length after)
+      go (Ok n) q = omega (arith, s.room n q)
+      go (Err a) q = tt
 
 module _ (call : Option (List ℕ) → Result) (d expected work after : List ℕ) (w : prelude.Result ℕ Answer)
     (s : CallAnswered call (length_of (some expected)) limit work w after) (e : (call (some expected)).expected ≡ some expected) (b : AllFit d) where

@@ -1,10 +1,6 @@
--- `list_measure` meets its contract: each place by its law in ListMode. Assumes nothing.
+-- `list_measure` meets its contract. Assumes nothing.
 use Rattle.mac.proofs.Laws.ListMode.ListMode as steps
-use Rattle.dataset.proofs.Laws.Reading.Loops.{size-passed}
 use Rattle.mac.proofs.list_mode.list_measure.Goals as goal
 
-pub returns-then-size-ne0 : goal.returns-then-size-ne0
-returns-then-size-ne0 c = search steps.list_over
-
 pub returns : goal.returns
-returns c = search (steps.list-measured, size-passed)
+returns c = search steps.measure-whole

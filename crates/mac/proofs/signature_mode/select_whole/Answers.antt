@@ -1,10 +1,13 @@
 -- `select_whole` meets its contract: each place by its law in SignatureMode. Assumes nothing.
+use Rattle.std.proofs.lemmas.Result.{err_from_is_err_and}
 use Rattle.mac.proofs.Laws.SignatureMode.SignatureMode as steps
 use Rattle.dataset.proofs.Laws.Reading.Loops.{size-passed}
 use Rattle.mac.proofs.signature_mode.select_whole.Goals as goal
 
-pub returns-then-size-ne0 : goal.returns-then-size-ne0
-returns-then-size-ne0 c = search steps.select-over
+pub returns-in_err-size_answer : goal.returns-in_err-size_answer
+returns-in_err-size_answer c =
+    let p = err_from_is_err_and c.from_residual.result c.from_residual.ensures.1 in
+    rw (p.1, p.2) (search (steps.select-over, c.in_err-size_answer.was))
 
 pub returns : goal.returns
-returns c = search (steps.select-selected, size-passed)
+returns c = let q = c.in_ok-size_answer.was in let h = size-passed _ _ c.size_answer.ensures _ q in search steps.select-selected

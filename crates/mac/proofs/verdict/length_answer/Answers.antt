@@ -2,11 +2,11 @@
 use Rattle.mac.proofs.Laws.Verdict.VerdictOfChecks as steps
 use Rattle.mac.proofs.verdict.length_answer.Goals as goal
 
-pub returns-in_default : goal.returns-in_default
-returns-in_default c = search steps.length_none
+pub returns-in-None : goal.returns-in-None
+returns-in-None c = search steps.length_none
 
-pub returns-then-length-right : goal.returns-then-length-right
-returns-then-length-right c = search steps.length-wrong
+pub returns-then-length-digest_length : goal.returns-then-length-digest_length
+returns-then-length-digest_length c = search steps.length-wrong
 
-pub returns : goal.returns
-returns c = search steps.length-right
+pub returns-else-length-digest_length : goal.returns-else-length-digest_length
+returns-else-length-digest_length c = search steps.length-right
