@@ -27,9 +27,11 @@ pub extern "C" fn eddyplume_sha256(message: &[u8], digest: &mut [u8; 32], answer
     ensures { HashedTo (hashing sha256 message.now) digest.old digest.new answer.new }
 {
     let hashed = message::sha256(message);
-    *answer = c_values::answer_words(hashed.answer);
-    if hashed.answer.number == 0 {
-        *digest = hashed.digest;
+    let taken = hashed.answer;
+    let bytes = hashed.digest;
+    *answer = c_values::answer_words(taken);
+    if taken.number == 0 {
+        *digest = bytes;
     }
 }
 
@@ -43,8 +45,10 @@ pub extern "C" fn eddyplume_digest_start(
     ensures { Holds (start sha256) words.new waiting.new counts.new }
 {
     let s = Running::start();
-    *words = s.words;
-    *waiting = s.waiting;
+    let first = s.words;
+    let room = s.waiting;
+    *words = first;
+    *waiting = room;
     *counts = [s.count as u64, s.total];
 }
 
@@ -62,11 +66,14 @@ pub extern "C" fn eddyplume_digest_feed(
 {
     let s = running_of(*words, *waiting, *counts);
     let fed = s.feed(bytes);
+    let a = fed.answer;
     let next = fed.running;
-    *words = next.words;
-    *waiting = next.waiting;
+    let after = next.words;
+    let room = next.waiting;
+    *words = after;
+    *waiting = room;
     *counts = [next.count as u64, next.total];
-    *answer = c_values::answer_words(fed.answer);
+    *answer = c_values::answer_words(a);
 }
 
 // The digest of all bytes so far; a refusal writes no digest byte.
@@ -83,8 +90,10 @@ pub extern "C" fn eddyplume_digest_finish(
 {
     let held = running_of(*words, *waiting, *counts);
     let finished = held.finish();
-    *answer = c_values::answer_words(finished.answer);
-    if finished.answer.number == 0 {
-        *digest = finished.digest;
+    let a = finished.answer;
+    let last = finished.digest;
+    *answer = c_values::answer_words(a);
+    if a.number == 0 {
+        *digest = last;
     }
 }
