@@ -1,8 +1,7 @@
 // The items of the two sequences, by their number or by their MAC ID Number.
-ghost use Rattle.std.specs.Prelude.{◌≡◌, ◌<◌};
+ghost use Rattle.std.specs.Prelude.{◌≡◌};
 ghost use Rattle.dataset.specs.Extent.{items_in};
 ghost use Rattle.dataset.specs.Place.{Lies};
-ghost use Rattle.dataset.specs.Inner.Place.{PlaceLies};
 ghost use Rattle.selection.specs.Inner.Selection.{TestsKey, FoundItemIn, FoundItemUnder};
 
 use crate::value;
@@ -27,7 +26,6 @@ pub(crate) struct FoundItem {
 
 // Whether the item with this number from 0, whose MAC ID Number stands in this place, has the key.
 fn has_key(d: &[u8], key: ItemKey, index: u64, id: Place) -> bool
-    requires { PlaceLies d.now id }
     ensures { TestsKey d.now key.entry index id result }
 {
     match key {
@@ -40,11 +38,10 @@ fn has_key(d: &[u8], key: ItemKey, index: u64, id: Place) -> bool
 
 // The first item with the key. A fault cannot occur: `select` has read the data set that they stand in.
 fn find_item(d: &[u8], x: Extent, key: ItemKey) -> Option<FoundItem>
-    requires { Lies d.now x × (0 < x.left) }
-    ensures { FoundItemIn d.now key.entry 0 (items_in d.now x) result }
+    ensures { Lies d.now x → FoundItemIn d.now key.entry 0 (items_in d.now x) result }
 {
     let mut at = x.from;
-    // counted beside the walk, which says where the items end: no range of numbers does
+    // counted by hand: the loop ends where the items do, which no range of numbers says
     let mut index: u64 = 0;
     while let OpenedItem::Item(inside) = extent::open_item(d, x, at).ok()? {
         let Sought {
@@ -63,7 +60,6 @@ fn find_item(d: &[u8], x: Extent, key: ItemKey) -> Option<FoundItem>
 
 // The first item with the key, of what stands under a tag.
 pub(crate) fn find_item_under(d: &[u8], p: Place, key: ItemKey) -> Option<FoundItem>
-    requires { PlaceLies d.now p }
     ensures { FoundItemUnder d.now p key.entry result }
 {
     let Place::Items(x) = p else {

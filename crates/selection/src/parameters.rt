@@ -1,7 +1,5 @@
 // The parameters item: its transfer syntax, its algorithm and its list, 21 to 23.
 ghost use Rattle.std.specs.Prelude.{◌≡◌};
-ghost use Rattle.dataset.specs.Place.{Lies};
-ghost use Rattle.dataset.specs.Inner.Place.{PlaceLies};
 ghost use Rattle.selection.specs.Selection.{less_nul, bad_transfer_syntax, SHA256, is_term, algorithm_of};
 ghost use Rattle.selection.specs.Inner.Selection.{bytes_of, named_case, ParametersSelected};
 
@@ -59,7 +57,6 @@ pub(crate) fn select_parameters(
     item: Extent,
     parameters: FoundItem,
 ) -> Result<Selected, Answer>
-    requires { Lies d.now signed × Lies d.now item × Lies d.now parameters.inside × PlaceLies d.now parameters.list }
     ensures { ParametersSelected uid.now d.now signed item parameters result }
 {
     // a fault cannot occur: `select` has read the data set that it stands in

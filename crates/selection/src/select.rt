@@ -1,6 +1,5 @@
 // The caller's choice of a signature, and what is selected: 18 to 23.
 ghost use Rattle.std.specs.Prelude.{◌≡◌};
-ghost use Rattle.dataset.specs.Inner.Place.{PlaceLies};
 ghost use Rattle.selection.specs.Selected.{SelectedIn};
 ghost use Rattle.selection.specs.Inner.Selection.{SignatureItemAt};
 
@@ -31,7 +30,6 @@ pub struct Selected {
 
 // The signature item, by the caller's choice, of what stands under (FFFA,FFFA); where no number is given, 0 is taken.
 fn signature_item(d: &[u8], which: Option<u64>, signatures: Place) -> Option<FoundItem>
-    requires { PlaceLies d.now signatures }
     ensures { SignatureItemAt d.now which signatures result }
 {
     items::find_item_under(d, signatures, ItemKey::Number(which.unwrap_or(0)))

@@ -1,6 +1,5 @@
 // The value that stands in a place.
 ghost use Rattle.std.specs.Prelude.{◌≡◌};
-ghost use Rattle.dataset.specs.Inner.Place.{PlaceLies};
 ghost use Rattle.selection.specs.Inner.Selection.{ValueAt, MacIdAt};
 
 use dataset::seek::Place;
@@ -8,18 +7,16 @@ use dataset::vr;
 
 // The bytes of the value in this place, where it has this VR.
 pub(crate) fn value_of(d: &[u8], p: Place, wanted: u16) -> Option<&[u8]>
-    requires { PlaceLies d.now p }
     ensures { ValueAt wanted d.now p result }
 {
     match p {
-        Place::Value { vr, start, end } if vr == wanted => Some(&d[start..end]),
+        Place::Value { vr, start, end } if vr == wanted => d.get(start..end),
         _ => None,
     }
 }
 
 // The MAC ID Number in this place.
 pub(crate) fn mac_id(d: &[u8], p: Place) -> Option<&[u8]>
-    requires { PlaceLies d.now p }
     ensures { MacIdAt d.now p result }
 {
     value_of(d, p, vr::US).filter(|id| id.len() == 2)

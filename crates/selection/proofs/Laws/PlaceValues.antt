@@ -4,9 +4,10 @@ use Rattle.std.specs.Prelude.{Result, Ok, Err, None, Some}
 use Rattle.std.specs.Prelude as code
 use Rattle.std.specs.Borrow.{Bor}
 use Rattle.std.specs.Option.{MatchOption, ok_or}
-use borrow.Author.Tests.{eq-eqb, ne_eqb}
+use Rattle.std.specs.Slice.{IsGetRangeResult}
+use borrow.Author.Tests.{eq-eqb}
 use Rattle.std.proofs.lemmas.Bool.{eqb-true}
-use Prim.Native.Nat.{ℕ, ◌≤◌, ◌<◌, ◌-◌}
+use Prim.Native.Nat.{ℕ, ◌≤◌}
 use mathlib.Core.Path.{◌≡◌, refl, sym, ap, ◌∙◌}
 use mathlib.Core.Bool.{Bool, true, false}
 use mathlib.Core.List.{List}
@@ -14,16 +15,15 @@ use mathlib.Core.Option.{Option, some}
 use mathlib.Core.Option as Opt
 use native.Mathlib.Omega.{arith}
 use lib.Dec.{eqb}
-use lib.ListN.{length, take, drop}
+use lib.ListN.{length}
 use Rattle.answer.specs.declared.Answer.{Answer}
 use Rattle.slices.specs.Lists.{between, same_bytes}
-use Rattle.dataset.specs.Tree.{Element, Elements}
+use Rattle.dataset.specs.Tree.{Element}
 use Rattle.dataset.specs.Lookup.{element_of}
 use Rattle.dataset.specs.Tags.{mac_id_number}
 use Rattle.selection.specs.Selection.{items_of, value_of, item_where, mac_id_of, is_id}
 use Rattle.dataset.specs.Extent.{items_in}
 use Rattle.dataset.specs.Place.{Lies, Placed}
-use Rattle.dataset.specs.Inner.Place.{PlaceLies}
 use Rattle.selection.specs.Inner.Selection.{bytes_of, ValueAt, MacIdAt, has_key, TestsKey, FoundItemAs, FoundItemIn, FoundItemUnder}
 use Rattle.dataset.specs.declared.extent.Extent.{Extent}
 use Rattle.dataset.specs.declared.seek.Place.{Place}
@@ -74,31 +74,36 @@ module _ (want : ℕ) (d : List ℕ) (p : Place) where
   pub no-value-at : ((vr start end : ℕ) → p ≡ place.Value vr start end → ⊥) → ValueAt want d p None
   no-value-at h = record { says = λ o q. sym (no_value o (h want) q) }
 
-  module _ (start end : ℕ) (is : p ≡ place.Value want start end) where
-    pub value-order : PlaceLies d p → start ≤ end
-    value-order l = (rw is at l).0
+  -- the value of this VR that stands there
+  pub record ValueIn (o : Option Element) (start end : ℕ) : Type 0 where
+    pub order : start ≤ end
+    pub inside : end ≤ length d
+    pub same : value_of want o d ≡ some (between d start end)
 
-    pub value-inside : PlaceLies d p → end ≤ length d
-    value-inside l = (rw is at l).1
-
-    pub value-in : (o : Option Element) → Placed d o p → value_of want o d ≡ some (between d start end)
-    unfolding value_of
-    value-in Opt.none q = never (cc)
-    value-in (some (Element.value at tag here span)) q =
-        let a : here ≡ want = cc q.0 in
-        let b : span.start ≡ start = cc q.0 in
-        let e : span.end ≡ end = cc q.0 in
-        rw (eq-eqb here want a, b, e)
-    value-in (some (Element.sequence at tag span items)) q = never (cc q.1)
-    value-in (some (Element.fragments at tag span parts)) q = never (cc)
+  pub value-in : (start end : ℕ) → p ≡ place.Value want start end → (o : Option Element) → Placed d o p → ValueIn o start end
+  unfolding value_of
+  value-in start end is Opt.none q = never (cc)
+  value-in start end is (some (Element.value at tag here span)) q =
+      let a : here ≡ want = cc q.0 in
+      let b : span.start ≡ start = cc q.0 in
+      let e : span.end ≡ end = cc q.0 in
+      record { order = omega (arith, q.1, b, e); inside = omega (arith, q.2, e); same = rw (eq-eqb here want a, b, e) }
+  value-in start end is (some (Element.sequence at tag span items)) q = never (cc q.1)
+  value-in start end is (some (Element.fragments at tag span parts)) q = never (cc)
 
   module _ (here start end : ℕ) (is : p ≡ place.Value here start end) where
     pub other-at : (here ≡ want → ⊥) → ValueAt want d p None
     other-at h = record { says = λ o q. sym (no_value o (λ s e k. h (cc)) q) }
 
-    pub value-at : here ≡ want → (r : Bor (List ℕ)) → r.now ≡ take (end - start) (drop start d) → ValueAt want d p (Some r)
+    got : (r : code.Option (Bor (List ℕ))) → IsGetRangeResult d start end r → start ≤ end → end ≤ length d → bytes_of r ≡ some (between d start end)
     unfolding between
-    value-at h r w = let k : p ≡ place.Value want start end = cc in record { says = λ o q. rw (value-in start end k o q, w) }
+    got None g l k = let z = g.1 (l, k) in never (cc)
+    got (Some x) g l k = ap some g.0.2
+
+    pub value-at : here ≡ want → (r : code.Option (Bor (List ℕ))) → IsGetRangeResult d start end r → ValueAt want d p r
+    value-at h r g =
+        let k : p ≡ place.Value want start end = cc in
+        record { says = λ o q. let v = value-in start end k o q in got r g v.order v.inside ∙ sym v.same }
 
 -- what follows of what is said of bytes, where there are any
 pub matched : (o : code.Option (Bor (List ℕ))) (P : Type 0) (Q R : Bor (List ℕ) → Type 0) → MatchOption o P Q → ((x : Bor (List ℕ)) → Q x → R x) → MatchOption o P R
@@ -135,20 +140,14 @@ module _ (d : List ℕ) (p : Place) (w : ItemKey) where
       by-element (some (Element.sequence at tag span items)) q = absurd (h q.0 q.1)
       by-element (some (Element.fragments at tag span parts)) q = refl
 
-  module _ (x : Extent) (is : p ≡ place.Items x) where
-    pub items_lie : PlaceLies d p → Lies d x
-    items_lie l = (rw is at l).0
-
-    pub items-level : PlaceLies d p → 0 < x.left
-    items-level l = (rw is at l).1
-
-    pub item-found : (r : code.Option FoundItem) → FoundItemIn d w 0 (items_in d x) r → FoundItemUnder d p w r
-    item-found r k = record { says = by-element }
-      where
-        by-element : (o : Option Element) → Placed d o p → FoundItemAs d (item_where (has_key d w) (items_of o)) r
-        by-element Opt.none q = never (cc)
-        by-element (some (Element.value at tag vr span)) q = never (cc q.0)
-        by-element (some (Element.sequence at tag span items)) q =
-            let e : x ≡ q.0 = cc q.1 in
-            rw (e, q.2.reads) at k
-        by-element (some (Element.fragments at tag span parts)) q = never (cc)
+  pub item-found : (x : Extent) → p ≡ place.Items x → (r : code.Option FoundItem) → (Lies d x → FoundItemIn d w 0 (items_in d x) r) → FoundItemUnder d p w r
+  item-found x is r k = record { says = by-element }
+    where
+      by-element : (o : Option Element) → Placed d o p → FoundItemAs d (item_where (has_key d w) (items_of o)) r
+      by-element Opt.none q = never (cc)
+      by-element (some (Element.value at tag vr span)) q = never (cc q.0)
+      by-element (some (Element.sequence at tag span items)) q =
+          let e : x ≡ q.0 = cc q.1 in
+          let h = rw e at k in
+          rw q.2.reads at (h q.2.lies)
+      by-element (some (Element.fragments at tag span parts)) q = never (cc)

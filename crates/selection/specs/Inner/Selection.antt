@@ -14,7 +14,7 @@ use Rattle.selection.specs.Selection.{items_of, value_of, first_item, item_where
 use Rattle.dataset.specs.Tags.{mac_id_number, data_elements_signed, digital_signatures_sequence}
 use Rattle.selection.specs.Selection as spec
 use Rattle.selection.specs.Selected.{algorithm_case, SelectionAs}
-use Rattle.dataset.specs.Place.{Lies, Placed}
+use Rattle.dataset.specs.Place.{Placed}
 use Rattle.dataset.specs.Extent.{elements_in}
 use Rattle.dataset.specs.declared.extent.Extent.{Extent}
 use Rattle.dataset.specs.declared.seek.Place.{Place}
@@ -47,7 +47,6 @@ has_key d (key.MacId id) index es = is_id id.now (mac_id_of es d)
 
 -- the item whose elements are es
 pub record ItemFound (d : List ℕ) (es : Elements) (item : FoundItem) : Type 0 where
-  pub lies : Lies d item.inside
   pub next : ℕ
   pub reads : elements_in d item.inside ≡ read es next
   pub placed : Placed d (element_of mac_id_number es) item.id

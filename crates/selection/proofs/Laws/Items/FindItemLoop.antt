@@ -11,16 +11,14 @@ use Rattle.answer.specs.declared.Answer.{Answer}
 use Rattle.dataset.specs.Tags.{mac_id_number, data_elements_signed}
 use Rattle.dataset.specs.Tree.{Elements, Items}
 use Rattle.dataset.specs.Reading.{Reading, fault, read, ◌>>=◌}
-use Rattle.dataset.specs.Lookup.{element_of}
 use Rattle.dataset.specs.Extent.{elements_in, items_in, opened_item, opened_case}
 use Rattle.dataset.specs.Place.{Lies, SoughtIn}
-use Rattle.dataset.specs.Inner.Place.{PlaceLies}
 use Rattle.dataset.specs.declared.extent.Extent.{Extent}
 use Rattle.dataset.specs.declared.extent.OpenedItem.{OpenedItem}
 use Rattle.dataset.specs.declared.extent.OpenedItem.TheVariants as item
 use Rattle.dataset.specs.declared.seek.Sought.{Sought}
-use Rattle.dataset.proofs.Laws.Extent.ItemsFrom.{items_from, items_refused, items-end, item-lies, items-are-one, item-past}
-use Rattle.dataset.proofs.Laws.Seek.Places.{IsSought, sought-past, sought-refused, placed-lies}
+use Rattle.dataset.proofs.Laws.Extent.ItemsFrom.{items_from, items_refused, items-end, items-are-one, item-past}
+use Rattle.dataset.proofs.Laws.Seek.Places.{IsSought, sought-past, sought-refused}
 use Rattle.selection.specs.Selection.{first_item}
 use Rattle.selection.specs.Inner.Selection.{has_key, TestsKey, ItemFound, FoundItemIn}
 use Rattle.selection.specs.declared.items.ItemKey.{ItemKey}
@@ -36,14 +34,15 @@ no-value : {T : Type 0} (r : Result T Answer) → result_ok r ≡ None → (f : 
 no-value (Ok y) h = never (cc)
 no-value (Err f) h = (f, refl)
 
--- the items from `at` on, of which the first has the number `index`: what is chosen among them is chosen among all
+-- the items from `at` on, of which the first has the number `index`: in an extent that lies inside the data, what is chosen among them is chosen
+-- among all
 pub record FindItemLoop (d : List ℕ) (x : Extent) (w : ItemKey) (at index : ℕ) : Type 0 where
-  pub inside : at ≤ x.stop
+  pub inside : Lies d x → at ≤ x.stop
   pub few : index ≤ at
-  pub on : (z : code.Option FoundItem) → FoundItemIn d w index (items_from d x at) z → FoundItemIn d w 0 (items_in d x) z
+  pub on : Lies d x → (z : code.Option FoundItem) → FoundItemIn d w index (items_from d x at) z → FoundItemIn d w 0 (items_in d x) z
 
-pub find-item-start : (d : List ℕ) (x : Extent) (w : ItemKey) → Lies d x → FindItemLoop d x w x.from 0
-find-item-start d x w l = record { inside = l.order; few = omega arith; on = λ z h. h }
+pub find-item-start : (d : List ℕ) (x : Extent) (w : ItemKey) → FindItemLoop d x w x.from 0
+find-item-start d x w = record { inside = λ l. l.order; few = omega arith; on = λ l z h. h }
 
 -- ---- an item in front of what is left, by whether it is meant
 module _ (d : List ℕ) (w : ItemKey) (at index : ℕ) (es : Elements) where
@@ -61,34 +60,34 @@ module _ (d : List ℕ) (w : ItemKey) (at index : ℕ) (es : Elements) where
 
 -- ---- a turn of the loop: r is what stands at `at`
 module _ (d : List ℕ) (x : Extent) (at : ℕ) (r : Result OpenedItem Answer) (e : opened_case r ≡ opened_item d x at) (w : ItemKey) (index : ℕ) (i : FindItemLoop d x w at index) where
-  pub find-item-refused : (o : code.Option OpenedItem) → o ≡ result_ok r → o ≡ None → FoundItemIn d w 0 (items_in d x) None
-  find-item-refused o v h = let f = no-value r (sym v ∙ h) in i.on None (rw (items_refused d x at r e i.inside f.0 f.1) tt)
+  pub find-item-refused : (o : code.Option OpenedItem) → o ≡ result_ok r → o ≡ None → Lies d x → FoundItemIn d w 0 (items_in d x) None
+  find-item-refused o v h l = let f = no-value r (sym v ∙ h) in i.on l None (rw (items_refused d x at r e (i.inside l) f.0 f.1) tt)
 
-  pub find-item-end : (p : OpenedItem) → r ≡ Ok p → ((inside : Extent) → p ≡ item.Item inside → ⊥) → FoundItemIn d w 0 (items_in d x) None
+  pub find-item-end : (p : OpenedItem) → r ≡ Ok p → ((inside : Extent) → p ≡ item.Item inside → ⊥) → Lies d x → FoundItemIn d w 0 (items_in d x) None
   unfolding first_item
-  find-item-end (item.End next) q h = i.on None (rw (items-end d x at r e i.inside next q) refl)
-  find-item-end (item.Item inside) q h = absurd (h inside refl)
+  find-item-end (item.End next) q h l = i.on l None (rw (items-end d x at r e (i.inside l) next q) refl)
+  find-item-end (item.Item inside) q h l = absurd (h inside refl)
 
   -- an item, and s is what is sought in it
   module _ (inside : Extent) (q : r ≡ Ok (item.Item inside)) (s : Result Sought Answer) (k : SoughtIn d mac_id_number data_elements_signed (elements_in d inside) s) where
-    pub find-item-fault : (o : code.Option Sought) → o ≡ result_ok s → o ≡ None → FoundItemIn d w 0 (items_in d x) None
-    find-item-fault o v h =
+    pub find-item-fault : (o : code.Option Sought) → o ≡ result_ok s → o ≡ None → Lies d x → FoundItemIn d w 0 (items_in d x) None
+    find-item-fault o v h l =
         let f = no-value s (sym v ∙ h) in
-        i.on None
-        (rw (items-are-one d x at r e inside q i.inside, sought-refused d mac_id_number data_elements_signed (elements_in d inside) s f.0 k f.1) tt)
+        i.on l None
+        (rw (items-are-one d x at r e inside q (i.inside l), sought-refused d mac_id_number data_elements_signed (elements_in d inside) s f.0 k f.1) tt)
 
     module _ (z : Sought) (m : s ≡ Ok z) where
       it : IsSought d mac_id_number data_elements_signed (elements_in d inside) z.first z.second z.next
       it = sought-past d mac_id_number data_elements_signed (elements_in d inside) s z.first z.second z.next k m
 
-      pub id-lies : PlaceLies d z.first
-      id-lies = placed-lies d (element_of mac_id_number it.what) z.first it.placed
-
-      items-then : items_from d x at ≡ (items_from d x z.next >>= λ (rest, after). read (Items.item at it.what rest) after)
-      items-then = rw (items-are-one d x at r e inside q i.inside, it.is)
+      items-then : Lies d x → items_from d x at ≡ (items_from d x z.next >>= λ (rest, after). read (Items.item at it.what rest) after)
+      items-then l = rw (items-are-one d x at r e inside q (i.inside l), it.is)
 
       past : (at < z.next) × (z.next ≤ x.stop)
       past = item-past d x at r e inside q it.what z.next it.is
+
+      pub find-item-count : index + 1 ≤ x.stop
+      find-item-count = let n = past in omega (arith, i.few, n)
 
       pub find-item-less : x.stop - z.next < x.stop - at
       find-item-less = let n = past in omega (arith, n)
@@ -97,19 +96,19 @@ module _ (d : List ℕ) (x : Extent) (at : ℕ) (r : Result OpenedItem Answer) (
         pub find-item-found : b ≡ true → Lies d x → FoundItemIn d w 0 (items_in d x) (Some (record { inside = inside; id = z.first; list = z.second }))
         find-item-found t l =
             let h = it in
-            i.on (Some (record { inside = inside; id = z.first; list = z.second }))
-            (rw items-then
+            i.on l (Some (record { inside = inside; id = z.first; list = z.second }))
+            (rw (items-then l)
             (meant d w at index h.what (record { inside = inside; id = z.first; list = z.second }) (items_from d x z.next)
             (sym (u h.what h.placed) ∙ t)
-            record { lies = item-lies d x at r e inside q l.inside; next = z.next; reads = h.is; placed = h.placed; placed' = h.placed' }))
+            record { next = z.next; reads = h.is; placed = h.placed; placed' = h.placed' }))
 
         pub find-item-again : b ≡ false → FindItemLoop d x w z.next (index + 1)
         find-item-again t =
             let h = it in
             let n = past in
             record {
-              inside = n.1;
+              inside = λ l. n.1;
               few = omega (arith, i.few, n);
-              on = λ o y. i.on o (rw items-then (passed d w at index h.what o (items_from d x z.next)
+              on = λ l o y. i.on l o (rw (items-then l) (passed d w at index h.what o (items_from d x z.next)
                   (sym (u h.what h.placed) ∙ t) y));
             }

@@ -18,8 +18,7 @@ use Rattle.selection.specs.Selection.{value_of, bad_transfer_syntax, algorithm_o
 use Rattle.dataset.specs.Tags.{mac_calculation_transfer_syntax_uid, mac_algorithm, data_elements_signed}
 use Rattle.selection.specs.Selection as spec
 use Rattle.dataset.specs.Extent.{elements_in}
-use Rattle.dataset.specs.Place.{Lies, SoughtIn}
-use Rattle.dataset.specs.Inner.Place.{PlaceLies}
+use Rattle.dataset.specs.Place.{SoughtIn}
 use Rattle.selection.specs.Inner.Selection.{bytes_of, ValueAt, named_case, ParametersSelected}
 use Rattle.selection.specs.Selected.{algorithm_case}
 use Rattle.dataset.specs.declared.extent.Extent.{Extent}
@@ -28,8 +27,9 @@ use Rattle.dataset.specs.declared.seek.Sought.{Sought}
 use Rattle.selection.specs.declared.items.FoundItem.{FoundItem}
 use Rattle.selection.specs.declared.select.Algorithm.{Algorithm}
 use Rattle.selection.specs.declared.select.Selected.{Selected}
-use Rattle.dataset.proofs.Laws.Seek.Places.{IsSought, sought-past, sought-refused, placed-lies}
-use Rattle.selection.proofs.Laws.PlaceValues.{never, NoValueOf, no_value, value-order, value-inside, value-in}
+use Rattle.dataset.proofs.Laws.Extent.Outside.{read-lies}
+use Rattle.dataset.proofs.Laws.Seek.Places.{IsSought, sought-past, sought-refused}
+use Rattle.selection.proofs.Laws.PlaceValues.{never, NoValueOf, no_value, value-in}
 
 -- the algorithm that the code has named
 record NamedBy (o : Option spec.Algorithm) (a : Algorithm) : Type 0 where
@@ -53,12 +53,6 @@ module _ (uid d : List ℕ) (signed signature : Extent) (item : FoundItem) (f : 
   module _ (z : Sought) (is : f ≡ Ok z) where
     fields : IsSought d mac_calculation_transfer_syntax_uid mac_algorithm (elements_in d item.inside) z.first z.second z.next
     fields = sought-past d _ _ (elements_in d item.inside) f z.first z.second z.next s is
-
-    pub syntax-lies : PlaceLies d z.first
-    syntax-lies = placed-lies d (element_of mac_calculation_transfer_syntax_uid fields.what) z.first fields.placed
-
-    pub algorithm-lies : PlaceLies d z.second
-    algorithm-lies = placed-lies d (element_of mac_algorithm fields.what) z.second fields.placed'
 
     -- parameters whose elements are ps
     module _ (ps : Elements) (m : ℕ) (y : elements_in d item.inside ≡ read ps m) where
@@ -112,25 +106,25 @@ module _ (uid d : List ℕ) (signed signature : Extent) (item : FoundItem) (f : 
             pub list-other : (e : Answer) → (vr ≡ AT → ⊥) → e ≡ refused 23 0 → ParametersSelected uid d signed signature item (Err e)
             list-other e h' j = without-list e (λ from to k. h' (cc)) j
 
-            pub list-selected : vr ≡ AT → Lies d signed → Lies d signature → PlaceLies d item.list
-                → ParametersSelected uid d signed signature item (Ok (record { start = start; end = end; algorithm = a; signed = signed; item = signature }))
-            list-selected h' l l' p =
+            pub list-selected : vr ≡ AT → ParametersSelected uid d signed signature item (Ok (record { start = start; end = end; algorithm = a; signed = signed; item = signature }))
+            list-selected h' =
                 let j : item.list ≡ place.Value AT start end = cc in
                 record {
                   says = λ es parts ps k n m u x y q.
-                      rw (rest es parts ps m y, value-in AT d item.list start end j (element_of data_elements_signed ps) q) (
+                      let l = value-in AT d item.list start end j (element_of data_elements_signed ps) q in
+                      rw (rest es parts ps m y, l.same) (
                         _,
                         refl,
                         record {
-                          order = value-order AT d item.list start end j p;
-                          inside = value-inside AT d item.list start end j p;
+                          order = l.order;
+                          inside = l.inside;
                           listed = refl;
                           algorithm = named.case;
                           signed = refl;
-                          lies = l;
+                          lies = read-lies d signed (rw u);
                           next = k;
                           reads = u;
-                          item-lies = l';
+                          item-lies = read-lies d signature (rw x);
                           item-next = n;
                           item-reads = x;
                         },

@@ -10,13 +10,12 @@ use mathlib.Core.Option as Opt
 use Rattle.answer.specs.declared.Answer.{Answer}
 use Rattle.answer.specs.Answer.{refused}
 use Rattle.dataset.specs.Tree.{Elements}
-use Rattle.dataset.specs.Reading.{read, tree_of}
+use Rattle.dataset.specs.Reading.{tree_of}
 use Rattle.dataset.specs.Lookup.{element_of}
 use Rattle.selection.specs.Selection.{mac_id_of, signature_item, parameters_item, need, parameters_select, select_in}
-use Rattle.dataset.specs.Tags.{mac_id_number, data_elements_signed, mac_parameters_sequence, digital_signatures_sequence}
+use Rattle.dataset.specs.Tags.{mac_id_number, mac_parameters_sequence, digital_signatures_sequence}
 use Rattle.dataset.specs.Extent.{elements_in}
-use Rattle.dataset.specs.Place.{Lies, SoughtIn}
-use Rattle.dataset.specs.Inner.Place.{PlaceLies}
+use Rattle.dataset.specs.Place.{SoughtIn}
 use Rattle.selection.specs.Inner.Selection.{bytes_of, MacIdAt, ItemFound, FoundItemAs, FoundItemUnder, SignatureItemAt, ParametersSelected}
 use Rattle.selection.specs.Selected.{SelectionAs, SelectedIn}
 use Rattle.dataset.specs.declared.extent.Extent.{Extent}
@@ -25,8 +24,7 @@ use Rattle.dataset.specs.declared.seek.Sought.{Sought}
 use Rattle.selection.specs.declared.items.ItemKey.TheVariants as key
 use Rattle.selection.specs.declared.items.FoundItem.{FoundItem}
 use Rattle.selection.specs.declared.select.Selected.{Selected}
-use Rattle.dataset.proofs.Laws.Extent.Outside.{read-lies}
-use Rattle.dataset.proofs.Laws.Seek.Places.{IsSought, sought-past, sought-refused, placed-lies}
+use Rattle.dataset.proofs.Laws.Seek.Places.{IsSought, sought-past, sought-refused}
 use Rattle.selection.proofs.Laws.PlaceValues.{never}
 
 -- ---- `signature_item`
@@ -65,15 +63,6 @@ module _ (uid : List ℕ) (which : code.Option ℕ) (d : List ℕ) (whole x : Ex
     it : IsSought d mac_parameters_sequence digital_signatures_sequence (elements_in d x) z.first z.second z.next
     it = sought-past d _ _ (elements_in d x) f z.first z.second z.next s is
 
-    pub sought-lies : Lies d x
-    sought-lies = let k = it.is in read-lies d x (rw k)
-
-    pub parameters-place : PlaceLies d z.first
-    parameters-place = placed-lies d (element_of mac_parameters_sequence it.what) z.first it.placed
-
-    pub signatures-place : PlaceLies d z.second
-    signatures-place = placed-lies d (element_of digital_signatures_sequence it.what) z.second it.placed'
-
     by-elements : (r : Result Selected Answer) → SelectionAs d x (select_in uid which (tree_of (elements_in d whole)) d it.what) r → SelectedIn uid which d whole x r
     by-elements r h = let e = it.is in rw e h
 
@@ -85,12 +74,6 @@ module _ (uid : List ℕ) (which : code.Option ℕ) (d : List ℕ) (whole x : Ex
       module _ (item : FoundItem) (c : o ≡ Some item) where
         chosen : Picked d (signature_item which it.what) item
         chosen = picked d o (signature_item which it.what) item (g.says it.what it.placed') c
-
-        pub item-lies : Lies d item.inside
-        item-lies = chosen.found.lies
-
-        pub id-lies : PlaceLies d item.id
-        id-lies = placed-lies d (element_of mac_id_number chosen.elements) item.id chosen.found.placed
 
         module _ (m : code.Option (Bor (List ℕ))) (h : MacIdAt d item.id m) where
           id-is : mac_id_of chosen.elements d ≡ bytes_of m
@@ -117,12 +100,6 @@ module _ (uid : List ℕ) (which : code.Option ℕ) (d : List ℕ) (whole x : Ex
             module _ (ps : FoundItem) (q : p ≡ Some ps) where
               meant : Picked d (parameters_item id.now it.what d) ps
               meant = picked d p (parameters_item id.now it.what d) ps under q
-
-              pub parameters-lie : Lies d ps.inside
-              parameters-lie = meant.found.lies
-
-              pub list-lies : PlaceLies d ps.list
-              list-lies = placed-lies d (element_of data_elements_signed meant.elements) ps.list meant.found.placed'
 
               pub select-rest : (r : Result Selected Answer) → ParametersSelected uid d x item.inside ps r → SelectedIn uid which d whole x r
               select-rest r w = by-elements r (rw (from-id, k, meant.same)

@@ -1,3 +1,4 @@
+use Rattle.std.proofs.Common.{arith}
 use Rattle.answer.proofs.Laws.Steps.{value-is}
 use Rattle.selection.proofs.Laws.Items.FindItemLoop as steps
 use Rattle.selection.proofs.items.find_item.Goals as goal
@@ -20,7 +21,7 @@ pub returns-then-has_key : goal.returns-then-has_key
 returns-then-has_key c =
     let q = value-is _ _ _ (steps.value-of _ _ _ c.ok.ensures.value c.in_ok-inside.was) c.in-Item.is in
     let m = steps.value-of _ _ _ c.ok-in-Item.ensures.value c.in_ok-id.was in
-    steps.find-item-found _ _ _ _ c.open_item.ensures _ _ c.loop-inside.invariant _ q _ c.seek.ensures _ m _ c.has_key.ensures c.if-has_key.true c.requires.0
+    steps.find-item-found _ _ _ _ c.open_item.ensures _ _ c.loop-inside.invariant _ q _ c.seek.ensures _ m _ c.has_key.ensures c.if-has_key.true
 
 pub loop-inside-smaller : goal.loop-inside-smaller
 loop-inside-smaller c =
@@ -33,3 +34,10 @@ loop-inside-preserved c =
     let q = value-is _ _ _ (steps.value-of _ _ _ c.ok.ensures.value c.in_ok-inside.was) c.in-Item.is in
     let m = steps.value-of _ _ _ c.ok-in-Item.ensures.value c.in_ok-id.was in
     steps.find-item-again _ _ _ _ c.open_item.ensures _ _ c.loop-inside.invariant _ q _ c.seek.ensures _ m _ c.has_key.ensures c.if-has_key.false
+
+pub overflow_add-index : goal.overflow_add-index
+overflow_add-index c =
+    let q = value-is _ _ _ (steps.value-of _ _ _ c.ok.ensures.value c.in_ok-inside.was) c.in-Item.is in
+    let m = steps.value-of _ _ _ c.ok-in-Item.ensures.value c.in_ok-id.was in
+    let n = steps.find-item-count _ _ _ _ c.open_item.ensures _ _ c.loop-inside.invariant _ q _ c.seek.ensures _ m in
+    omega (arith, n)

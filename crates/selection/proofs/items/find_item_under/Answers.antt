@@ -5,8 +5,5 @@ use Rattle.selection.proofs.items.find_item_under.Goals as goal
 pub returns-in_default : goal.returns-in_default
 returns-in_default c = search places.item-none
 
-pub find_item-requires : goal.find_item-requires
-find_item-requires c = search (places.items_lie, places.items-level)
-
 pub returns : goal.returns
 returns c = search places.item-found

@@ -1,5 +1,4 @@
 -- `bad_syntax` meets its contract: each place by its law in ValueTests. Assumes nothing.
-use Rattle.std.proofs.Common.{◌≡◌, refl}
 use Rattle.selection.proofs.Laws.Parameters.ValueTests as tests
 use Rattle.selection.proofs.parameters.bad_syntax.Goals as goal
 use Rattle.selection.proofs.parameters.bad_syntax.Goals.{then-is_empty, else-is_empty, then-not-same, else-not-same}

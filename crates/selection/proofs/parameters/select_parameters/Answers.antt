@@ -22,16 +22,16 @@ pub returns-in-Value : goal.returns-in-Value
 returns-in-Value c =
     let k = places.needed _ _ _ c.ok_or.ensures.value _ c.in_ok-algorithm.was in
     steps.list-selected _ _ _ _ _ _ c.seek.ensures _ c.in_ok-first.was _ c.value_of.ensures _ c.bad_syntax.ensures c.if-bad_syntax.false _ c.value_of-2.ensures _
-    c.algorithm_of.ensures _ k _ _ _ c.in-Value.is c.if-vr-eq-AT.true c.requires.0 c.requires.1 c.requires.3
+    c.algorithm_of.ensures _ k _ _ _ c.in-Value.is c.if-vr-eq-AT.true
 
 pub returns-in_default : goal.returns-in_default
 returns-in_default c =
     let k = places.needed _ _ _ c.ok_or.ensures.value _ c.in_ok-algorithm.was in
     elim c.in_default.branch [
-      in_default-via-in-Value+else-vr-eq-AT w ↦
-      steps.list-other _ _ _ _ _ _ c.seek.ensures _ c.in_ok-first.was _ c.value_of.ensures _ c.bad_syntax.ensures c.if-bad_syntax.false _ c.value_of-2.ensures _
-      c.algorithm_of.ensures _ k _ _ _ w.in-Value.is _ w.if-vr-eq-AT.false c.at-in_default.ensures
-    | in_default-via-in_default w ↦
-      steps.list-none _ _ _ _ _ _ c.seek.ensures _ c.in_ok-first.was _ c.value_of.ensures _ c.bad_syntax.ensures c.if-bad_syntax.false _ c.value_of-2.ensures _
-      c.algorithm_of.ensures _ k _ w.in_default.not-Value c.at-in_default.ensures
+      | in_default-via-in-Value+else-vr-eq-AT w ↦
+          steps.list-other _ _ _ _ _ _ c.seek.ensures _ c.in_ok-first.was _ c.value_of.ensures _ c.bad_syntax.ensures c.if-bad_syntax.false _ c.value_of-2.ensures _
+          c.algorithm_of.ensures _ k _ _ _ w.in-Value.is _ w.if-vr-eq-AT.false c.at-in_default.ensures
+      | in_default-via-in_default w ↦
+          steps.list-none _ _ _ _ _ _ c.seek.ensures _ c.in_ok-first.was _ c.value_of.ensures _ c.bad_syntax.ensures c.if-bad_syntax.false _ c.value_of-2.ensures _
+          c.algorithm_of.ensures _ k _ w.in_default.not-Value c.at-in_default.ensures
     ]

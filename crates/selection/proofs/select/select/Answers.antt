@@ -29,22 +29,6 @@ returns-in_err-item c =
     (steps.select-no-parameters _ _ _ _ _ _ c.seek.ensures _ c.in_ok-parameters.was _ c.signature_item.ensures _ s _ c.mac_id.ensures _ i _
     c.find_item_under.ensures _ m.0 (m.1 ∙ c.at-3.ensures))
 
-pub select_parameters-requires : goal.select_parameters-requires
-select_parameters-requires c =
-    let s = places.needed _ _ _ c.ok_or.ensures.value _ c.in_ok-signature.was in
-    let i = places.needed _ _ _ c.ok_or-2.ensures.value _ c.in_ok-id.was in
-    let k = places.needed _ _ _ c.ok_or-3.ensures.value _ c.in_ok-item.was in
-    let uid = c.args.uid.now in
-    let which = c.args.which in
-    let whole = c.args.whole in (
-      steps.sought-lies uid which _ whole _ _ c.seek.ensures _ c.in_ok-parameters.was,
-      steps.item-lies uid which _ whole _ _ c.seek.ensures _ c.in_ok-parameters.was _ c.signature_item.ensures _ s,
-      steps.parameters-lie uid which _ whole _ _ c.seek.ensures _ c.in_ok-parameters.was _ c.signature_item.ensures _ s _ c.mac_id.ensures _ i _
-      c.find_item_under.ensures _ k,
-      steps.list-lies uid which _ whole _ _ c.seek.ensures _ c.in_ok-parameters.was _ c.signature_item.ensures _ s _ c.mac_id.ensures _ i _
-      c.find_item_under.ensures _ k,
-    )
-
 pub returns : goal.returns
 returns c =
     let s = places.needed _ _ _ c.ok_or.ensures.value _ c.in_ok-signature.was in
