@@ -5,8 +5,6 @@ use Prim.Native.Nat.{ℕ, ◌-◌, ◌≤◌, ◌<◌}
 use mathlib.Core.Path.{◌≡◌, refl, sym, ap}
 use mathlib.Core.Bool.{Bool, true, false, true≢false}
 use mathlib.Core.List.{List}
-use mathlib.Core.Option.{Option, some}
-use mathlib.Core.Option as Opt
 use native.Mathlib.Omega.{arith}
 use borrow.Author.Tests.{eq-eqb, ne_eqb}
 use lib.ListN.{length}
@@ -22,7 +20,7 @@ use Rattle.dataset.proofs.Laws.Reading.Guarantees.{items-filled}
 use Rattle.dataset.specs.Order.{HeaderExtent}
 use Rattle.dataset.specs.Place.{ItemsAre, ElementPlaced, Placed, SoughtIn}
 use Rattle.dataset.specs.Inner.Outcomes.{outcome_of}
-use Rattle.dataset.specs.Inner.Place.{is_there, place_by, PlaceLies}
+use Rattle.dataset.specs.Inner.Place.{is_there, place_by}
 use Rattle.dataset.specs.declared.extent.Extent.{Extent}
 use Rattle.dataset.specs.declared.seek.Place.{Place}
 use Rattle.dataset.specs.declared.seek.Place.TheVariants as place
@@ -121,12 +119,6 @@ pub placed-there : (d : List ℕ) (e : Element) (p : Place) → ElementPlaced d 
 placed-there d (Element.value at tag vr span) p h = rw h.0
 placed-there d (Element.sequence at tag span items) p h = rw h.1
 placed-there d (Element.fragments at tag span parts) p h = rw h
-
-pub placed-lies : (d : List ℕ) (o : Option Element) (p : Place) → Placed d o p → PlaceLies d p
-placed-lies d Opt.none p h = rw h tt
-placed-lies d (some (Element.value at tag vr span)) p h = rw h.0 (h.1, h.2)
-placed-lies d (some (Element.sequence at tag span items)) p h = rw h.1 (h.2.lies, h.2.level)
-placed-lies d (some (Element.fragments at tag span parts)) p h = rw h tt
 
 -- ---- what follows of what `seek` answers
 
