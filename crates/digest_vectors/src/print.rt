@@ -1,35 +1,27 @@
-// Lines of text on a writer.
+// Values as a line shows them.
 use answer::Answer;
-use std::io;
-use std::io::Write;
+use std::fmt;
 
-// A text or a number, with a space behind it.
-pub(crate) fn text<W: Write>(writer: &mut W, t: &[u8]) -> io::Result<()> {
-    writer.write_all(t)?;
-    writer.write_all(b" ")
-}
+// An answer's number, position and length.
+#[derive(Clone, Copy)]
+pub(crate) struct Numbers(pub Answer);
 
-pub(crate) fn decimal<W: Write>(writer: &mut W, n: usize) -> io::Result<()> {
-    write!(writer, "{n} ")
-}
-
-// Number, position and length.
-pub(crate) fn answer<W: Write>(writer: &mut W, a: Answer) -> io::Result<()> {
-    decimal(writer, a.number as usize)?;
-    decimal(writer, a.position)?;
-    decimal(writer, a.length)
-}
-
-// A digest in lower-case hex, and the line's end.
-pub(crate) fn digest<W: Write>(writer: &mut W, d: [u8; 32]) -> io::Result<()> {
-    let mut i: usize = 0;
-    while i < 32 {
-        write!(writer, "{:02x}", d[i])?;
-        i += 1;
+impl fmt::Display for Numbers {
+    fn fmt<W: fmt::Write>(&self, f: &mut fmt::Formatter<W>) -> fmt::Result {
+        let a = self.0;
+        write!(f, "{} {} {}", a.number, a.position, a.length)
     }
-    end(writer)
 }
 
-pub(crate) fn end<W: Write>(writer: &mut W) -> io::Result<()> {
-    writer.write_all(b"\n")
+// A digest in lower-case hex.
+#[derive(Clone, Copy)]
+pub(crate) struct Hex(pub [u8; 32]);
+
+impl fmt::Display for Hex {
+    fn fmt<W: fmt::Write>(&self, f: &mut fmt::Formatter<W>) -> fmt::Result {
+        for byte in &self.0 {
+            write!(f, "{byte:02x}")?;
+        }
+        Ok(())
+    }
 }
