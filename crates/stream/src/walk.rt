@@ -51,8 +51,7 @@ pub fn measure(list: &[u8], d: &[u8], x: Extent, item: Option<Extent>) -> Result
 {
     tag_list::list_answer(list)?;
     extent::outside_answer(d, x)?;
-    let mut nothing = [0u8; 0];
-    write_stream(list, d, x, item, &mut nothing)
+    write_stream(list, d, x, item, &mut [])
 }
 
 // Writes the stream that `measure` measures into the output: what measuring refuses; then what the caller refuses, `later` (9); then 16.
