@@ -41,6 +41,7 @@ fn next_listed(list: &[u8], index: usize) -> Keep
 
 // The element that is wanted next, behind one of this tag: still the same where that stood before it. The list is read only where it is
 // another.
+#[tactic(auto, unfolding(crate::specs::Inner::Listed::wanted_behind))]
 fn wanted_behind(list: &[u8], keep: Keep, tag: u32, index: usize) -> Keep
     ensures { result ≡ wanted_behind keep tag (tags_in (drop (4 * index) list.now)) }
 {
@@ -61,6 +62,7 @@ fn stopped(count: usize, why: Refusal, index: usize) -> Listed
 }
 
 // What is found after one element more, by which element was wanted.
+#[tactic(auto, unfolding(crate::specs::Inner::Listed::merged_of))]
 fn merged(list: &[u8], keep: Keep, before: Listed, passed: Passed) -> Listed
     requires { before.index ≤ length list.now / 4 }
     ensures { result ≡ merged_of (length list.now / 4) keep before passed }

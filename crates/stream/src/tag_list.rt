@@ -17,6 +17,7 @@ pub(crate) fn tag_at(list: &[u8], index: usize) -> u32
 }
 
 // Whether a tag is barred.
+#[tactic(auto, unfolding(crate::specs::TagList::barred))]
 pub(crate) fn is_barred(tag: u32) -> bool
     ensures { result ≡ barred tag }
 {
@@ -31,6 +32,7 @@ pub(crate) fn is_barred(tag: u32) -> bool
 }
 
 // Whether a list of so many bytes is refused.
+#[tactic(auto, unfolding(crate::specs::TagList::bad_size))]
 fn bad_size(bytes: usize) -> bool
     ensures { result ≡ bad_size bytes }
 {
