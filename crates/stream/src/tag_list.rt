@@ -9,6 +9,7 @@ use answer::refusal::Refusal;
 use dataset::{bytes, tags};
 
 // The tag at an index of the list.
+#[tactic(auto, unfolding(dataset::specs::Bytes::tag_in))]
 pub(crate) fn tag_at(list: &[u8], index: usize) -> u32
     requires { 4 * index + 4 ≤ length list.now }
     ensures { result ≡ tag_at list.now (4 * index) }

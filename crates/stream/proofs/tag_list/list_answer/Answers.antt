@@ -1,14 +1,18 @@
--- `list_answer` meets its contract: each place by its law in TagChecks. Assumes nothing.
-use Rattle.std.proofs.lemmas.Result.{err_from_is_err_and}
-use Rattle.stream.proofs.Laws.TagList.TagChecks as steps
+-- `list_answer` meets its contract: by its definition. Assumes nothing.
+use Rattle.std.proofs.Common.{arith}
+use Rattle.answer.specs.Answer.{◌or_else◌}
+use Rattle.answer.specs.Step.{test_by}
+use Rattle.stream.specs.TagList.{list_answer}
 use Rattle.stream.proofs.tag_list.list_answer.Goals as goal
 
 pub returns-then-bad_size : goal.returns-then-bad_size
-returns-then-bad_size c = search steps.list-size
+unfolding list_answer ◌or_else◌ test_by
+returns-then-bad_size c = grind arith
 
 pub returns-in_err-order_answer : goal.returns-in_err-order_answer
-returns-in_err-order_answer c =
-    let p = err_from_is_err_and c.from_residual.result c.from_residual.ensures.1 in rw (p.1, p.2) (search (steps.list-order, c.in_err-order_answer.was))
+unfolding list_answer ◌or_else◌ test_by
+returns-in_err-order_answer c = grind arith
 
 pub returns : goal.returns
-returns c = search (steps.list-rest, c.in_ok-order_answer.was)
+unfolding list_answer ◌or_else◌ test_by
+returns c = grind arith

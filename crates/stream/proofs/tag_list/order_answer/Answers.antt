@@ -1,18 +1,17 @@
-use Rattle.std.proofs.Common.{rules}
-use Rattle.stream.proofs.Laws.TagList.TagChecks as steps
+use Rattle.std.proofs.Common.{arith}
+use Rattle.answer.specs.Step.{test_by}
+use Rattle.stream.specs.TagList.{ascending_answer}
+use Rattle.stream.proofs.Laws.TagList.TagChecks.{tags-more, tags-none}
 use Rattle.stream.proofs.tag_list.order_answer.Goals as goal
 
-pub loop-index-init : goal.loop-index-init
-loop-index-init c = search steps.order-start
-
-pub tag_at-tag-requires : goal.tag_at-tag-requires
-tag_at-tag-requires c = search (steps.tag-inside, rules)
-
 pub returns-then-tag-least : goal.returns-then-tag-least
-returns-then-tag-least c = search steps.order-refused
+unfolding ascending_answer test_by
+returns-then-tag-least c = grind (arith, tags-more)
 
 pub loop-index-preserved : goal.loop-index-preserved
-loop-index-preserved c = search steps.order-again
+unfolding ascending_answer
+loop-index-preserved c = grind (arith, tags-more)
 
 pub returns : goal.returns
-returns c = search steps.order-done
+unfolding ascending_answer test_by
+returns c = grind (arith, tags-none)
