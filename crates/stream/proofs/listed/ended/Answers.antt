@@ -1,9 +1,13 @@
--- `ended` meets its contract: each place by its law in MergeArms. Assumes nothing.
-use Rattle.stream.proofs.Laws.Listed.MergeArms as steps
+-- `ended` meets its contract: by the tags from the index on. Assumes nothing.
+use Rattle.std.proofs.Common.{arith}
+use Rattle.stream.specs.Inner.Listed.{ended_of}
+use Rattle.stream.proofs.Laws.TagList.TagChecks.{tags-more, tags-none}
 use Rattle.stream.proofs.listed.ended.Goals as goal
 
 pub returns-then-list-before : goal.returns-then-list-before
-returns-then-list-before c = search steps.ended-none
+unfolding ended_of
+returns-then-list-before c = grind (arith, tags-none)
 
 pub returns : goal.returns
-returns c = search steps.ended-absent
+unfolding ended_of
+returns c = grind (arith, tags-more)

@@ -1,18 +1,17 @@
-use Rattle.std.proofs.Common.{rules}
-use Rattle.stream.proofs.Laws.TagList.TagChecks as steps
+use Rattle.std.proofs.Common.{arith}
+use Rattle.answer.specs.Step.{test_by}
+use Rattle.stream.specs.TagList.{unbarred_answer}
+use Rattle.stream.proofs.Laws.TagList.TagChecks.{tags-more, tags-none}
 use Rattle.stream.proofs.tag_list.barred_answer.Goals as goal
 
-pub loop-index-init : goal.loop-index-init
-loop-index-init c = search steps.barred-start
-
-pub tag_at-requires : goal.tag_at-requires
-tag_at-requires c = search (steps.tag-inside, rules)
-
 pub returns-then-is_barred : goal.returns-then-is_barred
-returns-then-is_barred c = search steps.barred-refused
+unfolding unbarred_answer test_by
+returns-then-is_barred c = grind (arith, tags-more)
 
 pub loop-index-preserved : goal.loop-index-preserved
-loop-index-preserved c = search steps.barred-again
+unfolding unbarred_answer
+loop-index-preserved c = grind (arith, tags-more)
 
 pub returns : goal.returns
-returns c = search steps.barred-done
+unfolding unbarred_answer test_by
+returns c = grind (arith, tags-none)
