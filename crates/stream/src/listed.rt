@@ -102,12 +102,7 @@ fn ended(list: &[u8], before: Listed) -> Result<usize, Answer>
 
 // One walk over the list and the elements of a data set: the data set's first fault, wherever it stands; or the first of 13, 14, 15;
 // or the stream, which is written, and its length.
-pub(crate) fn walk_list(
-    list: &[u8],
-    d: &[u8],
-    x: Extent,
-    out: &mut [u8],
-) -> Result<usize, Answer>
+pub(crate) fn walk_list(list: &[u8], d: &[u8], x: Extent, out: &mut [u8]) -> Result<usize, Answer>
     requires { (ascending_answer 0 0 (tags_in list.now) ≡ Spec.accepted 0) × Lies d.now x }
     ensures { ListWalk list.now d.now x result out.old out.new }
 {

@@ -1,5 +1,4 @@
 pub mod Finding
 pub mod ListedAnswers
 pub mod Merge
-pub mod MergeArms
 pub mod WalkListLoop

@@ -1,1 +1,1 @@
-pub mod TagChecks
+pub mod TagsFrom

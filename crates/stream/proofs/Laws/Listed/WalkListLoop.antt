@@ -32,7 +32,6 @@ use Rattle.stream.specs.Listed.{element_answer, tags_answer}
 use Rattle.stream.specs.Inner.Keep.{keeps}
 use Rattle.stream.specs.Inner.Writer.{one_stream, one_walked, Walk}
 use Rattle.stream.specs.Inner.Listed.{listed_answer, ListedLeaves, ListWalk, next_listed, stopped_of, merged_of, ended_of, wanted_behind}
-use Rattle.dataset.specs.Place.{Lies}
 use Rattle.dataset.specs.Extent.{elements_in}
 use Rattle.dataset.specs.declared.extent.Extent.{Extent}
 use Rattle.stream.specs.declared.listed.Listed.{Listed}
@@ -40,8 +39,8 @@ use Rattle.stream.specs.declared.listed.Passed.{Passed}
 use Rattle.stream.specs.declared.keep.Keep.{Keep}
 use Rattle.stream.specs.declared.writer.OneWritten.{OneWritten}
 use Rattle.stream.specs.declared.writer.OneWritten.TheVariants as one
-use Rattle.stream.proofs.Laws.TagList.TagChecks.{tags-more, tags-none}
-use Rattle.stream.proofs.Laws.Listed.MergeArms.{still-wanted}
+use Rattle.stream.proofs.Laws.TagList.TagsFrom.{tags-more, tags-none}
+use Rattle.stream.specs.declared.keep.Keep.TheVariants as keep
 use Rattle.stream.proofs.Laws.Listed.Finding.{find_absent, front-absent}
 use Rattle.stream.proofs.Laws.Listed.Merge.{Ascends, later, rest-ascends, On, in_front, on_none, on-before, on-absent, on-unknown, on-holds, on-found}
 use Rattle.stream.proofs.Laws.Writer.OneWalks as walk
@@ -49,6 +48,21 @@ use Rattle.stream.proofs.Laws.Writer.OneWalks as walk
 -- the tags of the list l from an index on
 abbrev from : List ℕ → ℕ → List ℕ
 from l index = tags_in (drop (4 * index) l)
+
+-- the element that is wanted then
+pub still-wanted : (l : List ℕ) (count : ℕ) (c c' : Keep) (s s' : Listed) (e : Passed) → c ≡ next_listed (tags_in (drop (4 * s.index) l))
+    → s' ≡ merged_of count c s e → c' ≡ wanted_behind c e.tag (tags_in (drop (4 * s'.index) l)) → c' ≡ next_listed (tags_in (drop (4 * s'.index) l))
+unfolding wanted_behind merged_of
+still-wanted l count keep.Unbarred c' s s' e k z q = q
+still-wanted l count keep.Nothing c' s s' e k z q = q
+still-wanted l count (keep.Only wanted) c' s s' e k z q = go (ltb e.tag wanted) refl z q
+  where
+    go : (b : Bool) → ltb e.tag wanted ≡ b
+        → s' ≡ (if b then s else if ltb wanted e.tag then stopped_of count refusal.MissingElement s.index else if e.is_un then stopped_of count refusal.IsUn s.index
+        else if e.holds_un then stopped_of count refusal.HoldsUn s.index else record { index = s.index + 1; so_far = Ok e.to })
+        → c' ≡ (if b then keep.Only wanted else next_listed (tags_in (drop (4 * s'.index) l))) → c' ≡ next_listed (tags_in (drop (4 * s'.index) l))
+    go true x y w = w ∙ k ∙ ap (λ (t : Listed). next_listed (tags_in (drop (4 * t.index) l))) (sym y)
+    go false x y w = w
 
 -- what was found so far, as an answer
 abbrev found : Listed → Answer
@@ -70,18 +84,6 @@ pub record ListLoop (l d : List ℕ) (x : Extent) (xs₀ xs : List ℕ) (at leas
   pub wanted : c ≡ next_listed (from l s.index)
   pub on : On d (elements_in d x) (accepted 0) 0 (tags_in l) xs₀ (elements_at explicit d x.delimited x.left x.stop at least) (found s) s.index (from l s.index) xs
   pub long : length xs ≡ length xs₀
-
-pub list-start : (l d : List ℕ) (x : Extent) (xs : List ℕ) (c : Keep) → ascending_answer 0 0 (tags_in l) ≡ accepted 0 → Lies d x
-    → c ≡ next_listed (from l 0) → ListLoop l d x xs xs x.from 0 (record { index = 0; so_far = Ok 0 }) c
-list-start l d x xs c o lies k =
-    record {
-      inside = lies.order;
-      within = lies.inside;
-      state = record { below = omega arith; few = omega arith; order = o; fine = λ h. refl; form = λ h. refl; long = refl };
-      wanted = k;
-      on = record { answers = refl; output = λ zs k. k };
-      long = refl;
-    }
 
 on-trans : (d : List ℕ) (p₀ : Reading Elements) (a₀ : Answer) (i₀ : ℕ) (t₀ xs₀ : List ℕ) (p : Reading Elements) (a : Answer) (i : ℕ) (t xs : List ℕ)
     (q : Reading Elements) (b : Answer) (j : ℕ) (u ys : List ℕ) → On d p₀ a₀ i₀ t₀ xs₀ p a i t xs → On d p a i t xs q b j u ys → On d p₀ a₀ i₀ t₀ xs₀ q b j u ys
@@ -214,13 +216,6 @@ not-long (Err f) m h = tt
 
 -- ---- a turn of the loop: r is what the walk over one element gives, in an output from `to` on, and ys what it leaves
 module _ (l d : List ℕ) (x : Extent) (xs₀ xs : List ℕ) (at least : ℕ) (s : Listed) (c : Keep) (i : ListLoop l d x xs₀ xs at least s c) (to : ℕ) (t : to ≡ result_unwrap_or s.so_far 0) where
-  -- what the walk asks
-  pub list-room : to ≤ at + length d
-  list-room = omega (arith, t, i.state.long, i.state.below)
-
-  pub list-lies : Lies d (record { delimited = x.delimited; left = x.left; stop = x.stop; from = at })
-  list-lies = record { order = i.inside; inside = i.within }
-
   module _ (r : Result OneWritten Answer) (ys : List ℕ) (o : Walk (one_walked (keeps c)) (one_stream (keeps c)) (one_at explicit d x.delimited x.left x.stop at least) d to r xs ys) where
     w : Walk (one_walked (keeps c)) (one_stream (keeps c)) (one_at explicit d x.delimited x.left x.stop at least) d (found s).length r xs ys
     w = subst (λ (n : ℕ). Walk (one_walked (keeps c)) (one_stream (keeps c)) (one_at explicit d x.delimited x.left x.stop at least) d n r xs ys) (t ∙ i.state.long) o

@@ -116,7 +116,7 @@ module _ (l d : List ℕ) (x : Extent) (a : Result ℕ Answer) (xs ys : List ℕ
       }
 
   module _ (n : ℕ) (h : a ≡ Ok n) where
-    pub follows-short : n ≤ length d
+    follows-short : n ≤ length d
     follows-short = IfOk-at_ok (λ m. m ≤ length d) h w.short
 
     -- what follows, by what the signature item reads: r is the step, and zs what is left

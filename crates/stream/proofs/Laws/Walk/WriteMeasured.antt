@@ -17,7 +17,7 @@ use Rattle.answer.proofs.Laws.OrElse.{or-else-first, or-else-second, or-else-ref
 use Rattle.answer.proofs.Laws.Steps.{step-accepted, step-is, step-passes, step-refuses, test-accepted}
 use Rattle.answer.proofs.Laws.Chains.{test-stops-step}
 use Rattle.dataset.specs.declared.extent.Extent.{Extent}
-use Rattle.stream.specs.Walk.{stream_in, answer_to15, measure, answer_from16, answer, left_in, left_by, WrittenAs}
+use Rattle.stream.specs.Walk.{stream_in, answer_to15, measure, answer_from16, answer, left_in, WrittenAs}
 use Rattle.stream.specs.Inner.Walk.{StreamWalk}
 use Rattle.stream.proofs.Laws.Walk.Measuring.{first-accepts, measured-long, measure-walk}
 

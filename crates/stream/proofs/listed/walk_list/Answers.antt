@@ -2,12 +2,6 @@ use Rattle.std.proofs.lemmas.Result.{err_from_is_err_and}
 use Rattle.stream.proofs.Laws.Listed.WalkListLoop as steps
 use Rattle.stream.proofs.listed.walk_list.Goals as goal
 
-pub loop-one-init : goal.loop-one-init
-loop-one-init c = search steps.list-start
-
-pub write_one-requires : goal.write_one-requires
-write_one-requires c = (search steps.list-room, search steps.list-lies)
-
 pub returns-in_err-one : goal.returns-in_err-one
 returns-in_err-one c =
     let p = err_from_is_err_and c.from_residual.result c.from_residual.ensures.1 in rw (p.1, p.2) (search (steps.list-refused, c.in_err-one.was))

@@ -1,7 +1,7 @@
 use Rattle.std.proofs.Common.{arith}
 use Rattle.answer.specs.Step.{test_by}
 use Rattle.stream.specs.TagList.{unbarred_answer}
-use Rattle.stream.proofs.Laws.TagList.TagChecks.{tags-more, tags-none}
+use Rattle.stream.proofs.Laws.TagList.TagsFrom.{tags-more, tags-none}
 use Rattle.stream.proofs.tag_list.barred_answer.Goals as goal
 
 pub returns-then-is_barred : goal.returns-then-is_barred

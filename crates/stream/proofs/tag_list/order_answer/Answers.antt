@@ -1,7 +1,7 @@
 use Rattle.std.proofs.Common.{arith}
 use Rattle.answer.specs.Step.{test_by}
 use Rattle.stream.specs.TagList.{ascending_answer}
-use Rattle.stream.proofs.Laws.TagList.TagChecks.{tags-more, tags-none}
+use Rattle.stream.proofs.Laws.TagList.TagsFrom.{tags-more, tags-none}
 use Rattle.stream.proofs.tag_list.order_answer.Goals as goal
 
 pub returns-then-tag-least : goal.returns-then-tag-least

@@ -7,9 +7,6 @@ pub returns-in_err-to : goal.returns-in_err-to
 returns-in_err-to c =
     let p = err_from_is_err_and c.from_residual.result c.from_residual.ensures.1 in rw (p.1, p.2) (search (steps.all-refused, c.in_err-to.was))
 
-pub write_following-requires : goal.write_following-requires
-write_following-requires c = search (steps.follows-short, c.in_ok-to.was)
-
 pub returns-in-None : goal.returns-in-None
 returns-in-None c = search (steps.listed-alone, c.in_ok-to.was)
 
