@@ -7,80 +7,80 @@ use selection::select::Signature;
 use std::io;
 use std::io::Write;
 
-fn print_answer<W: Write>(writer: &mut W, answer: Answer) -> io::Result<()> {
-    print::fault(writer, answer.number, answer.position)?;
-    print::number(writer, answer.length as u64)
+// A mode, and what its calls take beside a data set.
+#[derive(Clone, Copy)]
+pub enum Mode<'a> {
+    List { list: &'a [u8] },
+    Signature { uid: &'a [u8], which: Signature },
 }
 
-// The answer, and the stream in hex.
-fn print_stream<W: Write>(writer: &mut W, answer: Answer, out: &[u8]) -> io::Result<()> {
-    print_answer(writer, answer)?;
-    print::hex(writer, print::first(out, answer.length))?;
-    print::byte(writer, b'\n')
-}
+impl<'a> Mode<'a> {
+    fn measure(self, d: &[u8]) -> Answer {
+        match self {
+            Mode::List { list } => list_mode::list_measure(list, d),
+            Mode::Signature { uid, which } => signature_mode::signature_measure(uid, which, d),
+        }
+    }
 
-fn print_verdict<W: Write>(writer: &mut W, verdict: Verdict) -> io::Result<()> {
-    match verdict {
-        Verdict::Neither => print::text(writer, b" neither\n"),
-        Verdict::Same => print::text(writer, b" same\n"),
-        Verdict::Differs => print::text(writer, b" differs\n"),
+    fn stream(self, d: &[u8], out: &mut [u8]) -> Answer {
+        match self {
+            Mode::List { list } => list_mode::list_stream(list, d, out),
+            Mode::Signature { uid, which } => signature_mode::signature_stream(uid, which, d, out),
+        }
+    }
+
+    fn check(self, d: &[u8], expected: &[u8], buffer: &mut [u8]) -> Checked {
+        match self {
+            Mode::List { list } => list_mode::list_check(list, d, expected, buffer),
+            Mode::Signature { uid, which } => {
+                signature_mode::signature_check(uid, which, d, expected, buffer)
+            }
+        }
     }
 }
 
-// The answer, and what the check says.
-fn print_check<W: Write>(writer: &mut W, checked: Checked) -> io::Result<()> {
-    let answer = checked.answer;
-    let verdict = checked.verdict;
-    print_answer(writer, answer)?;
-    print_verdict(writer, verdict)
+// Number, position and length.
+fn print_answer<W: Write>(writer: &mut W, answer: Answer) -> io::Result<()> {
+    let Answer {
+        number,
+        position,
+        length,
+    } = answer;
+    write!(writer, " {number} {position} {length}")
 }
 
-// Makes the call of a case, with an output room or work buffer, and prints what it gives back.
-pub fn print_call<W: Write>(
+// Measures, and prints the answer.
+pub fn print_measure<W: Write>(writer: &mut W, mode: Mode, d: &[u8]) -> io::Result<()> {
+    print_answer(writer, mode.measure(d))?;
+    writeln!(writer)
+}
+
+// Makes the stream in an output room, and prints the answer, and the stream in hex.
+pub fn print_stream<W: Write>(
     writer: &mut W,
-    signature: bool,
-    check: bool,
-    expected: &[u8],
-    list_or_uid: &[u8],
-    which: Signature,
+    mode: Mode,
     d: &[u8],
     out: &mut [u8],
 ) -> io::Result<()> {
-    if signature {
-        if check {
-            print_check(
-                writer,
-                signature_mode::signature_check(list_or_uid, which, d, expected, out),
-            )
-        } else {
-            let answer = signature_mode::signature_stream(list_or_uid, which, d, out);
-            print_stream(writer, answer, out)
-        }
-    } else {
-        if check {
-            print_check(writer, list_mode::list_check(list_or_uid, d, expected, out))
-        } else {
-            let answer = list_mode::list_stream(list_or_uid, d, out);
-            print_stream(writer, answer, out)
-        }
-    }
+    let answer = mode.stream(d, out);
+    print_answer(writer, answer)?;
+    print::hex(writer, out.get(..answer.length).unwrap_or(b""))?;
+    writeln!(writer)
 }
 
-// Makes a measuring call and prints its answer.
-pub fn print_measure<W: Write>(
+// Checks an expected digest with a work buffer, and prints the answer, and what the check says.
+pub fn print_check<W: Write>(
     writer: &mut W,
-    signature: bool,
-    list_or_uid: &[u8],
-    which: Signature,
+    mode: Mode,
     d: &[u8],
+    expected: &[u8],
+    buffer: &mut [u8],
 ) -> io::Result<()> {
-    if signature {
-        print_answer(
-            writer,
-            signature_mode::signature_measure(list_or_uid, which, d),
-        )?;
-    } else {
-        print_answer(writer, list_mode::list_measure(list_or_uid, d))?;
+    let Checked { answer, verdict } = mode.check(d, expected, buffer);
+    print_answer(writer, answer)?;
+    match verdict {
+        Verdict::Neither => writeln!(writer, " neither"),
+        Verdict::Same => writeln!(writer, " same"),
+        Verdict::Differs => writeln!(writer, " differs"),
     }
-    print::byte(writer, b'\n')
 }

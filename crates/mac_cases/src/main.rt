@@ -19,21 +19,14 @@ mod fields;
 mod kinds;
 mod mode_kinds;
 
-use case_calls::print;
 use input_bytes::read_full;
 use std::io;
 use std::io::{BufWriter, Write};
 
 // Runs each line of the text.
 fn run<W: Write>(writer: &mut W, text: &[u8]) -> io::Result<()> {
-    let mut at = 0;
-    while at < text.len() {
-        let end = fields::until(text, b'\n', at);
-        kinds::run_case(writer, &text[at..end])?;
-        if end == text.len() {
-            return Ok(());
-        }
-        at = end + 1;
+    for line in text.split(|c| *c == b'\n') {
+        kinds::run_case(writer, line)?;
     }
     Ok(())
 }
@@ -47,9 +40,9 @@ fn run_input<W: Write>(
 ) -> io::Result<()> {
     let n = read_full(&mut rt.reader(), input)?;
     if n == input.len() {
-        return print::text(writer, b"input over 2228223 bytes\n");
+        return writeln!(writer, "input over 2228223 bytes");
     }
-    run(writer, fields::part(input, 0, n))
+    run(writer, &input[..n])
 }
 
 fn main(rt: HostRuntime) -> io::Result<()> {

@@ -5,165 +5,149 @@
 //   signature-check ROOM EXPECTED UID WHICH DATA
 //   list-measure LIST DATA
 //   signature-measure UID WHICH DATA
-use crate::fields::Number;
+ghost use Rattle.std.specs.Prelude.{◌≤◌};
+
 use crate::{bytes, fields};
 use case_calls::calls;
+use case_calls::calls::Mode;
 use selection::select::Signature;
 use std::io;
 use std::io::Write;
 
-// Which signature: none, or a number in decimal.
+const MOST_ROOM: usize = 1048640;
+
+// A room for the output, a little over the size of a data set.
+fn output_room() -> [u8; MOST_ROOM] {
+    [0u8; MOST_ROOM]
+}
+
+// ROOM: how much of it is output room or work buffer.
 #[derive(Clone, Copy)]
-enum Which {
-    Good(Signature),
-    Bad,
-}
-
-// Of a kind without EXPECTED no bytes are put, and of one without WHICH no signature is named.
-fn put_expected(check: bool, args: &[u8], room: &mut [u8]) -> usize {
-    if check {
-        return bytes::put(fields::field(args), room, 0);
-    }
-    0
-}
-
-fn which_of(signature: bool, args: &[u8]) -> Which {
-    if !signature {
-        return Which::Good(Signature::Unnamed);
-    }
-    let field = fields::field(args);
-    if slices::same(field, b"none") {
-        return Which::Good(Signature::Unnamed);
-    }
-    match fields::number_of(field) {
-        Number::Good(n) => Which::Good(Signature::Number(n as u64)),
-        Number::Bad => Which::Bad,
-    }
-}
-
-// What is left of the line behind a field that not every kind has.
-fn rest_where(has: bool, args: &[u8]) -> &[u8] {
-    if has {
-        return fields::rest(args);
-    }
-    args
-}
-
-// A call: of which mode, stream or check, the bytes of output room or work buffer, where the bytes of expected digest, of list or UID and
-// of data set end in the room of the fields, and which signature.
-#[derive(Clone, Copy)]
-struct Call {
-    signature: bool,
-    check: bool,
+struct Room {
     size: usize,
-    expected: usize,
-    list_or_uid: usize,
-    which: Which,
-    set: usize,
+    ghost fits: { size ≤ 1048640 },
 }
 
-// Makes the call. Whether WHICH is understood, and there is so much output room.
-fn call_with<W: Write>(
-    writer: &mut W,
-    call: Call,
-    expected: &[u8],
-    list_or_uid: &[u8],
-    d: &[u8],
-    out: &mut [u8],
-) -> io::Result<bool> {
-    let start = 0;
-    let size = call.size;
-    let named = call.which;
-    let Which::Good(which) = named else {
-        return Ok(false);
-    };
-    if out.len() < size {
-        return Ok(false);
+impl Room {
+    fn of(field: &[u8]) -> Option<Room> {
+        let size = fields::number_of(field)?;
+        if MOST_ROOM < size {
+            return None;
+        }
+        Some(Room { size })
     }
-    calls::print_call(
-        writer,
-        call.signature,
-        call.check,
+}
+
+// What is wanted of a call.
+#[derive(Clone, Copy)]
+enum Wanted<'a> {
+    Stream(Room),
+    Check { room: Room, expected: &'a [u8] },
+    Measure,
+}
+
+// A call: of which mode, on which data set, and what is wanted of it.
+#[derive(Clone, Copy)]
+pub(crate) struct Call<'a> {
+    mode: Mode<'a>,
+    d: &'a [u8],
+    wanted: Wanted<'a>,
+}
+
+// Of which mode a call is.
+#[derive(Clone, Copy)]
+enum Named {
+    List,
+    Signature,
+}
+
+// LIST DATA
+fn list_of<'a>(args: &[u8], room: &'a mut [u8]) -> Option<(Mode<'a>, &'a [u8])> {
+    let (list, set) = fields::first(args);
+    let (list, room) = bytes::put(list, room)?;
+    let (d, _) = bytes::put(set, room)?;
+    Some((Mode::List { list }, d))
+}
+
+// WHICH: a number in decimal, or none.
+fn which_of(field: &[u8]) -> Option<Signature> {
+    match field {
+        b"none" => Some(Signature::Unnamed),
+        _ => Some(Signature::Number(fields::number_of(field)? as u64)),
+    }
+}
+
+// UID WHICH DATA
+fn signature_of<'a>(args: &[u8], room: &'a mut [u8]) -> Option<(Mode<'a>, &'a [u8])> {
+    let (uid, args) = fields::first(args);
+    let (which, set) = fields::first(args);
+    let which = which_of(which)?;
+    let (uid, room) = bytes::put(uid, room)?;
+    let (d, _) = bytes::put(set, room)?;
+    Some((Mode::Signature { uid, which }, d))
+}
+
+fn mode_of<'a>(named: Named, args: &[u8], room: &'a mut [u8]) -> Option<(Mode<'a>, &'a [u8])> {
+    match named {
+        Named::List => list_of(args, room),
+        Named::Signature => signature_of(args, room),
+    }
+}
+
+// LIST DATA or UID WHICH DATA
+fn measure_of<'a>(named: Named, args: &[u8], room: &'a mut [u8]) -> Option<Call<'a>> {
+    let (mode, d) = mode_of(named, args, room)?;
+    let wanted = Wanted::Measure;
+    Some(Call { mode, d, wanted })
+}
+
+// ROOM before those
+fn stream_of<'a>(named: Named, args: &[u8], room: &'a mut [u8]) -> Option<Call<'a>> {
+    let (size, args) = fields::first(args);
+    let wanted = Wanted::Stream(Room::of(size)?);
+    let (mode, d) = mode_of(named, args, room)?;
+    Some(Call { mode, d, wanted })
+}
+
+// ROOM EXPECTED before those
+fn check_of<'a>(named: Named, args: &[u8], room: &'a mut [u8]) -> Option<Call<'a>> {
+    let (size, args) = fields::first(args);
+    let (expected, args) = fields::first(args);
+    let size = Room::of(size)?;
+    let (expected, room) = bytes::put(expected, room)?;
+    let (mode, d) = mode_of(named, args, room)?;
+    let wanted = Wanted::Check {
+        room: size,
         expected,
-        list_or_uid,
-        which,
-        d,
-        &mut out[start..size],
-    )?;
-    Ok(true)
-}
-
-// Makes the call with the bytes of its fields, which stand in the room.
-fn call_in<W: Write>(
-    writer: &mut W,
-    call: Call,
-    room: &[u8],
-    out: &mut [u8; 1048640],
-) -> io::Result<bool> {
-    let e = fields::part(room, 0, call.expected);
-    let k = fields::part(room, call.expected, call.list_or_uid);
-    let d = fields::part(room, call.list_or_uid, call.set);
-    call_with(writer, call, e, k, d, out)
-}
-
-// Makes the call with a room for the output a little over the size of a data set.
-fn call_from<W: Write>(writer: &mut W, call: Call, room: &[u8]) -> io::Result<bool> {
-    let mut out = [0u8; 1048640];
-    call_in(writer, call, room, &mut out)
-}
-
-// Reads the fields and makes the call. The bytes of the fields are put into the room one behind the other. Whether they are understood.
-pub(crate) fn mode_case<W: Write>(
-    writer: &mut W,
-    signature: bool,
-    check: bool,
-    args: &[u8],
-    room: &mut [u8],
-) -> io::Result<bool> {
-    let Number::Good(size) = fields::number_of(fields::field(args)) else {
-        return Ok(false);
     };
-    let from_expected = fields::rest(args);
-    let expected = put_expected(check, from_expected, room);
-    let from_list = rest_where(check, from_expected);
-    let list_or_uid = bytes::put(fields::field(from_list), room, expected);
-    let from_which = fields::rest(from_list);
-    let which = which_of(signature, from_which);
-    let set = bytes::put(rest_where(signature, from_which), room, list_or_uid);
-    if set == bytes::NOWHERE {
-        return Ok(false);
+    Some(Call { mode, d, wanted })
+}
+
+// The call of a kind, with the fields behind it.
+pub(crate) fn call_of<'a>(kind: &[u8], args: &[u8], room: &'a mut [u8]) -> Option<Call<'a>> {
+    match kind {
+        b"list" => stream_of(Named::List, args, room),
+        b"list-check" => check_of(Named::List, args, room),
+        b"list-measure" => measure_of(Named::List, args, room),
+        b"signature" => stream_of(Named::Signature, args, room),
+        b"signature-check" => check_of(Named::Signature, args, room),
+        b"signature-measure" => measure_of(Named::Signature, args, room),
+        _ => None,
     }
-    let call = Call {
-        signature,
-        check,
-        size,
-        expected,
-        list_or_uid,
-        which,
-        set,
-    };
-    call_from(writer, call, room)
 }
 
-// Reads the fields of a measuring call and makes it. Whether they are understood.
-pub(crate) fn measure_case<W: Write>(
-    writer: &mut W,
-    signature: bool,
-    args: &[u8],
-    room: &mut [u8],
-) -> io::Result<bool> {
-    let from_which = fields::rest(args);
-    let named = which_of(signature, from_which);
-    let Which::Good(which) = named else {
-        return Ok(false);
-    };
-    let list_or_uid = bytes::put(fields::field(args), room, 0);
-    let set = bytes::put(rest_where(signature, from_which), room, list_or_uid);
-    if set == bytes::NOWHERE {
-        return Ok(false);
+// Makes a call, and prints what it gives back.
+pub(crate) fn print_call<W: Write>(writer: &mut W, call: Call) -> io::Result<()> {
+    let Call { mode, d, wanted } = call;
+    match wanted {
+        Wanted::Measure => calls::print_measure(writer, mode, d),
+        Wanted::Stream(room) => {
+            let mut out = output_room();
+            calls::print_stream(writer, mode, d, &mut out[..room.size])
+        }
+        Wanted::Check { room, expected } => {
+            let mut buffer = output_room();
+            calls::print_check(writer, mode, d, expected, &mut buffer[..room.size])
+        }
     }
-    let k = fields::part(room, 0, list_or_uid);
-    let d = fields::part(room, list_or_uid, set);
-    calls::print_measure(writer, signature, k, which, d)?;
-    Ok(true)
 }

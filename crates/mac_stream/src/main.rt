@@ -4,15 +4,6 @@ use input_bytes::read_full;
 use mac_frame::frame;
 use std::io;
 
-// The first n bytes of s, or all of s where it has fewer.
-fn first(s: &[u8], n: usize) -> &[u8] {
-    if s.len() < n {
-        return s;
-    }
-    let start = 0;
-    &s[start..n]
-}
-
 // One byte more than a frame may have, so that a longer input is seen; and the array that print_frame wants for the text.
 fn run(
     rt: &(impl Input + Print),
@@ -20,8 +11,8 @@ fn run(
     text: &mut [u8; 135168],
 ) -> io::Result<()> {
     let n = read_full(&mut rt.reader(), input)?;
-    let size = frame::print_frame(first(input, n), text);
-    rt.write_all(first(text, size))
+    let size = frame::print_frame(&input[..n], text);
+    rt.write_all(&text[..size])
 }
 
 fn main(rt: HostRuntime) -> io::Result<()> {
