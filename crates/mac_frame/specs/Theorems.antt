@@ -1,11 +1,10 @@
 -- What is true of the frame: statements that a reader of the definitions would ask for, all in the record Theorems,
 -- proved in proofs/Theorems.antt.
 -- Assumes nothing.
-use Rattle.std.specs.Prelude.{ℕ, ◌+◌, ◌≤◌, ◌≡◌, List, ◌∷◌, ◌++◌, length}
+use Rattle.std.specs.Prelude.{ℕ, ◌+◌, ◌≤◌, ◌≡◌, List, ◌∷◌, ◌++◌, Some, length}
 use Rattle.std.proofs.Math.Option as Opt
 use Rattle.mac.specs.ListMode.{Call}
 use Rattle.mac_frame.specs.Frame.{input_limit, output_room, big32, frame_of, frame_call}
-use Rattle.mac_frame.specs.declared.frame.Frame.TheVariants as frame
 
 -- RULES, 11.1: "a frame of at most 65,536 bytes: the byte 1 for the version; a length in bytes, itself four bytes with the high byte first,
 -- and a list of that length; a length likewise, and a data set of that length; and no byte more"
@@ -23,7 +22,7 @@ call_of list set = record { list = list; set = set; room = output_room; expected
 
 -- such an input is a good frame, and list mode is run with this list and this data set
 pub record ReadBack (s list set : List ℕ) : Type 0 where
-  pub good : frame_of s ≡ frame.ListEnds (5 + length list)
+  pub good : frame_of s ≡ Some (5 + length list)
   pub call : frame_call s (5 + length list) ≡ call_of list set
 
 abbrev pub FramesRead : Type 0
@@ -31,7 +30,7 @@ FramesRead = (s list set : List ℕ) → Framed s list set → ReadBack s list s
 
 -- and nothing else is a good frame
 abbrev pub OnlyFrames : Type 0
-OnlyFrames = (s : List ℕ) (end : ℕ) → frame_of s ≡ frame.ListEnds end → Framed s (frame_call s end).list (frame_call s end).set
+OnlyFrames = (s : List ℕ) (end : ℕ) → frame_of s ≡ Some end → Framed s (frame_call s end).list (frame_call s end).set
 
 -- all of them
 pub record Theorems : Type 0 where

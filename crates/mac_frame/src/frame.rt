@@ -4,56 +4,42 @@ ghost use Rattle.mac_frame.specs.Frame as Spec;
 ghost use Rattle.mac_frame.specs.Inner.Wrote.{Wrote, Holds};
 
 use crate::text;
-use answer::Answer;
+use answer::refusal::Refusal;
 use mac::list_mode;
 
 const INPUT_LIMIT: usize = 65536;
-
-// A bad frame, or where its list ends.
-#[derive(Clone, Copy)]
-pub(crate) enum Frame {
-    Bad,
-    ListEnds(usize),
-}
-
-// The number of four bytes, high byte first.
-fn big_endian(a: u8, b: u8, c: u8, d: u8) -> u32
-    ensures { result ≡ a * 2 ^ 24 + b * 2 ^ 16 + c * 2 ^ 8 + d }
-{
-    (a as u32) * 16777216 + (b as u32) * 65536 + (c as u32) * 256 + (d as u32)
-}
 
 // The big-endian length at an index.
 fn big32(s: &[u8], i: usize) -> u32
     requires { i + 4 ≤ length s.now }
     ensures { result ≡ Spec.big32 s.now i }
 {
-    big_endian(s[i], s[i + 1], s[i + 2], s[i + 3])
+    u32::from_be_bytes([s[i], s[i + 1], s[i + 2], s[i + 3]])
 }
 
 // Where the list ends in the frame s.
-pub(crate) fn frame_of(s: &[u8]) -> Frame
+fn frame_of(s: &[u8]) -> Option<usize>
     ensures { result ≡ Spec.frame_of s.now }
 {
     let n = s.len();
     if INPUT_LIMIT < n {
-        return Frame::Bad;
+        return None;
     }
     if n < 5 {
-        return Frame::Bad;
+        return None;
     }
     if s[0] != 1 {
-        return Frame::Bad;
+        return None;
     }
     let list = big32(s, 1) as usize;
     if n < 9 + list {
-        return Frame::Bad;
+        return None;
     }
     let set = big32(s, 5 + list) as usize;
     if n != 9 + list + set {
-        return Frame::Bad;
+        return None;
     }
-    Frame::ListEnds(5 + list)
+    Some(5 + list)
 }
 
 // The output room of list mode.
@@ -82,8 +68,8 @@ fn print_into(input: &[u8], text: &mut [u8]) -> usize
     ensures { Wrote text.old 0 (Spec.printed input.now) result text.new }
 {
     match frame_of(input) {
-        Frame::Bad => text::put_line(text, 0, Answer::refused(24, 0)),
-        Frame::ListEnds(end) => report(input, end, text),
+        None => text::put_line(text, 0, Refusal::BadFrame.at(0)),
+        Some(end) => report(input, end, text),
     }
 }
 

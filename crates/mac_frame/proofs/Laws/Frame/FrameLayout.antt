@@ -11,7 +11,7 @@ use Rattle.slices.specs.Lists.{between}
 use Rattle.slices.proofs.Laws.Parts.{length-between}
 use Rattle.mac_frame.specs.Frame.{input_limit, big32, frame_of, frame_call}
 use Rattle.mac_frame.specs.Theorems.{Framed, call_of, ReadBack}
-use Rattle.mac_frame.specs.declared.frame.Frame.TheVariants as frame
+use Rattle.std.specs.Prelude.{Option, None, Some}
 use Rattle.mac_frame.proofs.Laws.Frame.FrameTests.{filled, good-frame}
 
 -- ---- a length by its four bytes
@@ -101,7 +101,7 @@ frames-read s list set f =
     (subst (λ (l : List ℕ). length l ≤ input_limit) f.is f.small))
 
 -- ---- a good frame is one
-pub only-frames : (s : List ℕ) (end : ℕ) → frame_of s ≡ frame.ListEnds end → Framed s (frame_call s end).list (frame_call s end).set
+pub only-frames : (s : List ℕ) (end : ℕ) → frame_of s ≡ Some end → Framed s (frame_call s end).list (frame_call s end).set
 only-frames s end e =
     let g = good-frame s end (sym e) in
     let k : end ≡ 5 + big32 s 1 = g.ends in

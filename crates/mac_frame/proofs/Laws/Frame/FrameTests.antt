@@ -22,32 +22,31 @@ use Rattle.mac_frame.specs.Inner.Wrote.{Wrote, Holds}
 use Rattle.mac_theorems.proofs.Laws.Answers.Acceptance.{answer-accepted, answer-fits}
 use Rattle.mac_theorems.proofs.Laws.Answers.Outputs.{output-stream}
 use Rattle.mac_frame.proofs.Laws.Text.TextPieces.{wrote_then}
-use Rattle.mac_frame.specs.declared.frame.Frame.{Frame}
-use Rattle.mac_frame.specs.declared.frame.Frame.TheVariants as frame
+use Rattle.std.specs.Prelude.{Option, None, Some}
 
 module _ (s : List ℕ) where
-  pub too_long : input_limit < length s → frame.Bad ≡ frame_of s
+  pub too_long : input_limit < length s → None ≡ frame_of s
   unfolding frame_of
   too_long h = simp (lt-ltb input_limit (length s) h)
 
   module _ (h₁ : length s ≤ input_limit) where
-    pub too_short : length s < 5 → frame.Bad ≡ frame_of s
+    pub too_short : length s < 5 → None ≡ frame_of s
     unfolding frame_of
     too_short h = simp (le-ltb input_limit (length s) h₁, lt-ltb (length s) 5 h)
 
     module _ (h₂ : 5 ≤ length s) where
-      pub other-version : (get_or s 0 0 ≡ 1 → ⊥) → frame.Bad ≡ frame_of s
+      pub other-version : (get_or s 0 0 ≡ 1 → ⊥) → None ≡ frame_of s
       unfolding frame_of
       other-version h = simp (le-ltb input_limit (length s) h₁, le-ltb (length s) 5 h₂, ne_eqb (get_or s 0 0) 1 h)
 
       module _ (h₃ : get_or s 0 0 ≡ 1) (list : ℕ) (e : list ≡ big32 s 1) where
-        pub list-past : length s < 9 + list → frame.Bad ≡ frame_of s
+        pub list-past : length s < 9 + list → None ≡ frame_of s
         unfolding frame_of
         list-past h =
             simp (le-ltb input_limit (length s) h₁, le-ltb (length s) 5 h₂, eq-eqb (get_or s 0 0) 1 h₃, ← e, lt-ltb (length s) (9 + list) h)
 
         module _ (h₄ : 9 + list ≤ length s) (set : ℕ) (e' : set ≡ big32 s (5 + list)) where
-          pub not-filled : (length s ≡ 9 + list + set → ⊥) → frame.Bad ≡ frame_of s
+          pub not-filled : (length s ≡ 9 + list + set → ⊥) → None ≡ frame_of s
           unfolding frame_of
           not-filled h =
               simp (
@@ -60,7 +59,7 @@ module _ (s : List ℕ) where
                 ne_eqb (length s) (9 + list + set) h,
               )
 
-          pub filled : length s ≡ 9 + list + set → frame.ListEnds (5 + list) ≡ frame_of s
+          pub filled : length s ≡ 9 + list + set → Some (5 + list) ≡ frame_of s
           unfolding frame_of
           filled h =
               simp (
@@ -80,8 +79,8 @@ pub record Good (s : List ℕ) (end : ℕ) : Type 0 where
   pub ends : end ≡ 5 + big32 s 1
   pub fills : length s ≡ 9 + big32 s 1 + big32 s (5 + big32 s 1)
 
-module _ (s : List ℕ) (end : ℕ) (good : frame.ListEnds end ≡ frame_of s) where
-  not-bad : frame.Bad ≡ frame_of s → ⊥
+module _ (s : List ℕ) (end : ℕ) (good : Some end ≡ frame_of s) where
+  not-bad : None ≡ frame_of s → ⊥
   not-bad bad = let z : ◌≡◌ {A = ℕ} 0 1 = cc in omega arith
 
   fills-by : length s ≤ input_limit → 5 ≤ length s → get_or s 0 0 ≡ 1 → 9 + big32 s 1 ≤ length s → (b : Bool)
@@ -161,23 +160,23 @@ module _ (s out after : List ℕ) (end : ℕ) (a : Answer) (room : length out �
   pub output-framed : after ≡ output_after (result (frame_call s end)) out
   output-framed = is.output ∙ ap (λ (k : Call). output_after (result k) out) (frame-call s out end room)
 
-printed-as : (s text after : List ℕ) (r : ℕ) (f g : Frame) → f ≡ frame_of s → f ≡ g → Wrote text 0 (printed_by g s) r after
+printed-as : (s text after : List ℕ) (r : ℕ) (f g : Option ℕ) → f ≡ frame_of s → f ≡ g → Wrote text 0 (printed_by g s) r after
     → Wrote text 0 (printed s) r after
 unfolding printed
 printed-as s text after r f g e q w =
-    let p : printed_by g s ≡ printed s = ap (λ (x : Frame). printed_by x s) (sym q ∙ e) in
+    let p : printed_by g s ≡ printed s = ap (λ (x : Option ℕ). printed_by x s) (sym q ∙ e) in
     subst (λ (x : List ℕ). Wrote text 0 x r after) p w
 
-pub printed-bad : (s text after : List ℕ) (r : ℕ) (f : Frame) (a : Answer) → f ≡ frame_of s → f ≡ frame.Bad → a ≡ refused 24 0
+pub printed-bad : (s text after : List ℕ) (r : ℕ) (f : Option ℕ) (a : Answer) → f ≡ frame_of s → f ≡ None → a ≡ refused 24 0
     → Wrote text 0 (line a) r after → Wrote text 0 (printed s) r after
 printed-bad s text after r f a e q z w =
-    printed-as s text after r f frame.Bad e q (subst (λ (x : Answer). Wrote text 0 (line x) r after) z w)
+    printed-as s text after r f None e q (subst (λ (x : Answer). Wrote text 0 (line x) r after) z w)
 
-pub printed-good : (s text after : List ℕ) (r end : ℕ) (f : Frame) → f ≡ frame_of s → f ≡ frame.ListEnds end
+pub printed-good : (s text after : List ℕ) (r end : ℕ) (f : Option ℕ) → f ≡ frame_of s → f ≡ Some end
     → Wrote text 0 (report (frame_call s end)) r after → Wrote text 0 (printed s) r after
-printed-good s text after r end f e q w = printed-as s text after r f (frame.ListEnds end) e q w
+printed-good s text after r end f e q w = printed-as s text after r f (Some end) e q w
 
-pub holds-matched : (s : List ℕ) (end : ℕ) (f : Frame) → f ≡ frame_of s → f ≡ frame.ListEnds end → Holds s end
+pub holds-matched : (s : List ℕ) (end : ℕ) (f : Option ℕ) → f ≡ frame_of s → f ≡ Some end → Holds s end
 holds-matched s end f e q =
     let g = good-frame s end (sym q ∙ e) in
     record { least = omega arith; inside = omega arith; small = g.small }

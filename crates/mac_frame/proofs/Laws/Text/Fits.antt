@@ -21,8 +21,7 @@ use Rattle.mac_theorems.proofs.Theorems as mac
 use Rattle.mac_theorems.proofs.Laws.Answers.Acceptance.{answer-accepted}
 use Rattle.mac_frame.specs.Text.{hex, is_empty, line_end, hex_from}
 use Rattle.mac_frame.specs.Frame.{frame_of, frame_call, report, printed_by, printed, Printed}
-use Rattle.mac_frame.specs.declared.frame.Frame.{Frame}
-use Rattle.mac_frame.specs.declared.frame.Frame.TheVariants as frame
+use Rattle.std.specs.Prelude.{Option, None, Some}
 use Rattle.mac_frame.specs.Inner.Wrote.{Wrote}
 use Rattle.mac_frame.proofs.Laws.Text.TextPieces.{length-line}
 use Rattle.mac_frame.proofs.Laws.Frame.FrameTests.{within-room, good-frame}
@@ -105,9 +104,9 @@ module _ (c : Call) (h : length c.list ≤ 65536) (k : length c.set ≤ 65536) (
   report-most : length (report c) ≤ 135168
   report-most = report-by (is_accepted (result c)) refl
 
-printed-by : (s : List ℕ) (f : Frame) → frame_of s ≡ f → length (printed_by f s) ≤ 135168
-printed-by s frame.Bad e = omega (arith, length-line (refused 24 0) (omega arith) (omega arith) (omega arith))
-printed-by s (frame.ListEnds end) e =
+printed-by : (s : List ℕ) (f : Option ℕ) → frame_of s ≡ f → length (printed_by f s) ≤ 135168
+printed-by s None e = omega (arith, length-line (refused 24 0) (omega arith) (omega arith) (omega arith))
+printed-by s (Some end) e =
     let g = good-frame s end (sym e) in
     let b = g.ends in
     let z = g.fills in
