@@ -11,31 +11,21 @@ fn digit(n: u8) -> u8
     requires { n < 16 }
     ensures { result ≡ Spec.digit n }
 {
-    if n < 10 {
-        return 0x30 + n;
-    }
-    0x57 + n
+    if n < 10 { b'0' + n } else { b'a' - 10 + n }
 }
 
-fn put_byte(text: &mut [u8], at: usize, b: u8)
-    ensures { text.new ≡ sets text.old at (b ∷ []) }
-{
-    if at < text.len() {
-        text[at] = b;
-    }
-}
-
+// The digits of a number. (No `write!`: it promises what it writes only where it gives Ok, and no clause says that it does.)
 fn put_decimal(text: &mut [u8], at: usize, n: u64) -> usize
     requires { at < 2 ^ 62 }
     ensures { Wrote text.old at (Spec.decimal n) result text.new }
 {
     let last = digit((n % 10) as u8);
     if n < 10 {
-        put_byte(text, at, last);
+        slices::copy(&[last], text, at);
         return at + 1;
     }
     let next = put_decimal(text, at, n / 10);
-    put_byte(text, next, last);
+    slices::copy(&[last], text, next);
     next + 1
 }
 
@@ -44,7 +34,7 @@ fn put_decimal_then(text: &mut [u8], at: usize, n: u64, end: u8) -> usize
     ensures { Wrote text.old at (Spec.decimal_then n end) result text.new }
 {
     let next = put_decimal(text, at, n);
-    put_byte(text, next, end);
+    slices::copy(&[end], text, next);
     next + 1
 }
 
@@ -52,9 +42,9 @@ pub(crate) fn put_line(text: &mut [u8], at: usize, answer: Answer) -> usize
     requires { at < 2 ^ 60 }
     ensures { Wrote text.old at (Spec.line answer) result text.new }
 {
-    let first = put_decimal_then(text, at, answer.number as u64, 0x20);
-    let second = put_decimal_then(text, first, answer.position as u64, 0x20);
-    put_decimal_then(text, second, answer.length as u64, 0x0A)
+    let first = put_decimal_then(text, at, answer.number as u64, b' ');
+    let second = put_decimal_then(text, first, answer.position as u64, b' ');
+    put_decimal_then(text, second, answer.length as u64, b'\n')
 }
 
 // A byte in hex, and the line's end where it ends the line.
@@ -62,12 +52,9 @@ fn put_hex(text: &mut [u8], at: usize, b: u8, ends: bool) -> usize
     requires { at < 2 ^ 62 }
     ensures { Wrote text.old at (Spec.hex b ++ Spec.line_end ends) result text.new }
 {
-    let high = digit(b / 16);
-    let low = digit(b % 16);
-    put_byte(text, at, high);
-    put_byte(text, at + 1, low);
+    slices::copy(&[digit(b / 16), digit(b % 16)], text, at);
     if ends {
-        put_byte(text, at + 2, 0x0A);
+        slices::copy(b"\n", text, at + 2);
         return at + 3;
     }
     at + 2
@@ -78,10 +65,7 @@ fn ends_line(i: usize, n: usize) -> bool
     requires { i < n }
     ensures { result ≡ (eqb (i % 32) 31 || eqb (i + 1) n) }
 {
-    if i % 32 == 31 {
-        return true;
-    }
-    i + 1 == n
+    i % 32 == 31 || i + 1 == n
 }
 
 pub(crate) fn put_lines(text: &mut [u8], from: usize, bytes: &[u8]) -> usize
@@ -89,11 +73,8 @@ pub(crate) fn put_lines(text: &mut [u8], from: usize, bytes: &[u8]) -> usize
     ensures { Wrote text.old from (Spec.hex_lines bytes.now) result text.new }
 {
     let mut at = from;
-    let mut i: usize = 0;
-    while i < bytes.len() {
-        let ends = ends_line(i, bytes.len());
-        at = put_hex(text, at, bytes[i], ends);
-        i += 1;
+    for (i, b) in bytes.iter().enumerate() {
+        at = put_hex(text, at, *b, ends_line(i, bytes.len()));
     }
     at
 }

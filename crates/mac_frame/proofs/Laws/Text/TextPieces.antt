@@ -124,25 +124,6 @@ length-line a h k l =
     simp length-append (omega arith)
 
 -- ---- lines of hex
-pub hex-wrote : (text mid after : List ℕ) (at b high low : ℕ) → high ≡ digit (b / 16) → low ≡ digit (b % 16)
-    → mid ≡ sets text at (high ∷ []) → after ≡ sets mid (at + 1) (low ∷ [])
-    → Wrote text at (hex b) (at + 2) after
-hex-wrote text mid after at b high low h l p q =
-    let k : at + 1 ≡ suc at = omega arith in
-    record { place = refl; wrote = q ∙ ap (λ (t : List ℕ). sets t (at + 1) (low ∷ [])) p ∙ (rw (k, h, l)) }
-
-pub hex-ended : (text mid next after : List ℕ) (at b high low : ℕ) (ends : Bool) → ends ≡ true → high ≡ digit (b / 16)
-    → low ≡ digit (b % 16) → mid ≡ sets text at (high ∷ [])
-    → next ≡ sets mid (at + 1) (low ∷ []) → after ≡ sets next (at + 2) (newline ∷ []) → Wrote text at (hex b ++ line_end ends) (at + 3) after
-hex-ended text mid next after at b high low ends t h l p q w =
-    rw t (wrote_then text next after at (at + 2) (at + 3) (hex b) (newline ∷ []) (hex-wrote text mid next at b high low h l p q)
-    (record { place = omega arith; wrote = w }))
-
-pub hex-open : (text mid after : List ℕ) (at b high low : ℕ) (ends : Bool) → ends ≡ false → high ≡ digit (b / 16) → low ≡ digit (b % 16)
-    → mid ≡ sets text at (high ∷ [])
-    → after ≡ sets mid (at + 1) (low ∷ []) → Wrote text at (hex b ++ line_end ends) (at + 2) after
-hex-open text mid after at b high low ends t h l p q = rw t (hex-wrote text mid after at b high low h l p q)
-
 -- the text up to byte i is written, and what is left is the rest
 pub record Lines (bytes text₀ : List ℕ) (from : ℕ) (text : List ℕ) (at i : ℕ) : Type 0 where
   pub inside : i ≤ length bytes

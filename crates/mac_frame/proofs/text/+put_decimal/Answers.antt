@@ -3,7 +3,7 @@ use Rattle.mac_frame.proofs.Laws.Text.TextPieces.{length-decimal, decimal-wrote-
 use Rattle.mac_frame.proofs.text.+put_decimal.Goals as goal
 
 pub returns-then-n-lt10 : goal.returns-then-n-lt10
-returns-then-n-lt10 t c = decimal-wrote-last _ _ _ _ _ c.if-n-lt10.true c.digit-last.ensures c.put_byte.ensures
+returns-then-n-lt10 t c = decimal-wrote-last _ _ _ _ _ c.if-n-lt10.true c.digit-last.ensures c.copy.ensures
 
 pub overflow_add-result-2 : goal.overflow_add-result-2
 overflow_add-result-2 t c =
@@ -12,4 +12,4 @@ overflow_add-result-2 t c =
 
 pub returns : goal.returns
 returns t c =
-    decimal-wrote-more _ _ _ _ _ _ _ c.if-n-lt10.false c.digit-last.ensures c.put_decimal-next.ensures c.put_byte-2.ensures
+    decimal-wrote-more _ _ _ _ _ _ _ c.if-n-lt10.false c.digit-last.ensures c.put_decimal-next.ensures c.copy-2.ensures

@@ -10,4 +10,4 @@ overflow_add-result c =
 pub returns : goal.returns
 returns c =
     decimal-then-wrote _ _ _ _ _ _ _ c.put_decimal-next.ensures
-    c.put_byte.ensures
+    c.copy.ensures
