@@ -1,2 +1,2 @@
 -- For inner contracts; no part of what a reader has to believe.
-pub mod Wrote
+pub mod Puts

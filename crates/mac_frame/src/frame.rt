@@ -1,9 +1,9 @@
 // The stream program, on slices: a frame of a list and a data set in, the text to print out.
 ghost use Rattle.std.specs.Prelude.{◌≡◌, ◌+◌, ◌*◌, ◌^◌, ◌≤◌, length};
 ghost use Rattle.mac_frame.specs.Frame as Spec;
-ghost use Rattle.mac_frame.specs.Inner.Wrote.{Wrote, Holds};
+ghost use Rattle.mac_frame.specs.Inner.Puts.{Puts, Holds};
 
-use crate::text;
+use crate::text::Text;
 use answer::refusal::Refusal;
 use mac::list_mode;
 
@@ -47,28 +47,27 @@ fn output() -> [u8; 65536] {
     [0u8; 65536]
 }
 
-// Runs list mode on the frame whose list ends at `end`, and writes what is to be printed.
-fn report(input: &[u8], end: usize, text: &mut [u8]) -> usize
-    requires { Holds input.now end }
-    ensures { Wrote text.old 0 (Spec.report (Spec.frame_call input.now end)) result text.new }
+// Runs list mode on the frame whose list ends at `end`, and puts what is to be printed.
+fn report(input: &[u8], end: usize, text: &mut Text)
+    requires { Holds input.now end × text.old.size ≡ 0 }
+    ensures { Puts text.old (Spec.report (Spec.frame_call input.now end)) text.new }
 {
     let mut out = output();
     let from = end + 4;
     let answer = list_mode::list_stream(&input[5..end], &input[from..], &mut out);
-    let next = text::put_line(text, 0, answer);
-    if answer.number != 0 {
-        return next;
+    text.put_line(answer);
+    if answer.number == 0 {
+        text.put_lines(&out[..answer.length]);
     }
-    let length = answer.length;
-    text::put_lines(text, next, &out[..length])
 }
 
-// What the stream program prints for its input, as far as it fits into the text; the number of bytes in all.
-fn print_into(input: &[u8], text: &mut [u8]) -> usize
-    ensures { Wrote text.old 0 (Spec.printed input.now) result text.new }
+// Puts what the stream program prints for its input.
+fn print_into(input: &[u8], text: &mut Text)
+    requires { text.old.size ≡ 0 }
+    ensures { Puts text.old (Spec.printed input.now) text.new }
 {
     match frame_of(input) {
-        None => text::put_line(text, 0, Refusal::BadFrame.at(0)),
+        None => text.put_line(Refusal::BadFrame.at(0)),
         Some(end) => report(input, end, text),
     }
 }
@@ -77,5 +76,10 @@ fn print_into(input: &[u8], text: &mut [u8]) -> usize
 pub fn print_frame(input: &[u8], text: &mut [u8; 135168]) -> usize
     ensures { Spec.Printed input.now text.old result text.new }
 {
-    print_into(input, text)
+    let mut out = Text {
+        room: text,
+        size: 0,
+    };
+    print_into(input, &mut out);
+    out.size
 }

@@ -18,10 +18,11 @@ use Rattle.mac.specs.Result.{Streamed, is_accepted, output_after}
 use Rattle.mac.specs.ListMode.{Call, answer, stream, stream_call, result}
 use Rattle.mac_frame.specs.Text.{line, hex_lines}
 use Rattle.mac_frame.specs.Frame.{input_limit, output_room, big32, frame_of, frame_call, report, printed_by, printed}
-use Rattle.mac_frame.specs.Inner.Wrote.{Wrote, Holds}
+use Rattle.mac_frame.specs.Inner.Puts.{Puts, Holds}
+use Rattle.mac_frame.specs.declared.text.Text.{Text}
 use Rattle.mac_theorems.proofs.Laws.Answers.Acceptance.{answer-accepted, answer-fits}
 use Rattle.mac_theorems.proofs.Laws.Answers.Outputs.{output-stream}
-use Rattle.mac_frame.proofs.Laws.Text.TextPieces.{wrote_then}
+use Rattle.mac_frame.proofs.Laws.Text.TextPieces.{puts_then}
 use Rattle.std.specs.Prelude.{Option, None, Some}
 
 module _ (s : List ℕ) where
@@ -113,29 +114,27 @@ module _ (s : List ℕ) (end : ℕ) (good : Some end ≡ frame_of s) where
   good-frame = long-by (dec_lt input_limit (length s))
 
 -- ---- what is printed
-module _ (c : Call) (out text : List ℕ) where
-  pub report-refused : (a : Answer) (r : ℕ) (after : List ℕ) → a ≡ answer c → (a.number ≡ 0 → ⊥) → Wrote text 0 (line a) r after
-      → Wrote text 0 (report c) r after
+module _ (c : Call) (t u : Text) (a : Answer) (e : a ≡ answer c) where
+  pub report-refused : (a.number ≡ 0 → ⊥) → Puts t (line a) u → Puts t (report c) u
   unfolding report
-  report-refused a r after e n w =
+  report-refused n w =
       let f : is_accepted (result c) ≡ false = ne_eqb (answer c).number 0 (λ z. n (ap (λ (x : Answer). x.number) e ∙ z)) in
       let p : line a ≡ report c =
       ap line e ∙ sym (append-nil (line (answer c)))
       ∙ ap (λ (b : Bool). line (answer c) ++ (if b then hex_lines (stream c) else [])) (sym f) in
-      subst (λ (l : List ℕ). Wrote text 0 l r after) p w
+      subst (λ (l : List ℕ). Puts t l u) p w
 
-  pub report-accepted : (a : Answer) (next r : ℕ) (mid after left : List ℕ) → a ≡ answer c → a.number ≡ 0
-      → left ≡ output_after (result c) out → Wrote text 0 (line a) next mid
-      → Wrote mid next (hex_lines (take a.length left)) r after → Wrote text 0 (report c) r after
+  pub report-accepted : (m : Text) (out left : List ℕ) → a.number ≡ 0 → left ≡ output_after (result c) out → Puts t (line a) m
+      → Puts m (hex_lines (take a.length left)) u → Puts t (report c) u
   unfolding report
-  report-accepted a next r mid after left e n o w v =
-      let t : is_accepted (result c) ≡ true = eq-eqb (answer c).number 0 (ap (λ (x : Answer). x.number) (sym e) ∙ n) in
+  report-accepted m out left n o w v =
+      let y : is_accepted (result c) ≡ true = eq-eqb (answer c).number 0 (ap (λ (x : Answer). x.number) (sym e) ∙ n) in
       let b : take a.length left ≡ stream c =
       ap₂ (λ (x : Answer) (l : List ℕ). take x.length l) e o
-      ∙ output-stream (result c) out t (ap (λ (x : Answer). x.length) (answer-accepted c t)) in
+      ∙ output-stream (result c) out y (ap (λ (x : Answer). x.length) (answer-accepted c y)) in
       let p : line a ++ hex_lines (take a.length left) ≡ report c =
-      ap₂ ◌++◌ (ap line e) (ap hex_lines b) ∙ ap (λ (x : Bool). line (answer c) ++ (if x then hex_lines (stream c) else [])) (sym t) in
-      subst (λ (l : List ℕ). Wrote text 0 l r after) p (wrote_then text mid after 0 next r (line a) (hex_lines (take a.length left)) w v)
+      ap₂ ◌++◌ (ap line e) (ap hex_lines b) ∙ ap (λ (x : Bool). line (answer c) ++ (if x then hex_lines (stream c) else [])) (sym y) in
+      subst (λ (l : List ℕ). Puts t l u) p (puts_then t m u (line a) (hex_lines (take a.length left)) w v)
 
 -- the stream of an accepted call fits into its output room
 pub within-room : (c : Call) (a : Answer) → a ≡ answer c → a.number ≡ 0 → a.length ≤ c.room
@@ -160,21 +159,16 @@ module _ (s out after : List ℕ) (end : ℕ) (a : Answer) (room : length out �
   pub output-framed : after ≡ output_after (result (frame_call s end)) out
   output-framed = is.output ∙ ap (λ (k : Call). output_after (result k) out) (frame-call s out end room)
 
-printed-as : (s text after : List ℕ) (r : ℕ) (f g : Option ℕ) → f ≡ frame_of s → f ≡ g → Wrote text 0 (printed_by g s) r after
-    → Wrote text 0 (printed s) r after
-unfolding printed
-printed-as s text after r f g e q w =
-    let p : printed_by g s ≡ printed s = ap (λ (x : Option ℕ). printed_by x s) (sym q ∙ e) in
-    subst (λ (x : List ℕ). Wrote text 0 x r after) p w
+module _ (s : List ℕ) (t u : Text) (f : Option ℕ) (e : f ≡ frame_of s) where
+  printed-as : (g : Option ℕ) → f ≡ g → Puts t (printed_by g s) u → Puts t (printed s) u
+  unfolding printed
+  printed-as g q w = subst (λ (x : Option ℕ). Puts t (printed_by x s) u) (sym q ∙ e) w
 
-pub printed-bad : (s text after : List ℕ) (r : ℕ) (f : Option ℕ) (a : Answer) → f ≡ frame_of s → f ≡ None → a ≡ refused 24 0
-    → Wrote text 0 (line a) r after → Wrote text 0 (printed s) r after
-printed-bad s text after r f a e q z w =
-    printed-as s text after r f None e q (subst (λ (x : Answer). Wrote text 0 (line x) r after) z w)
+  pub printed-bad : (a : Answer) → f ≡ None → a ≡ refused 24 0 → Puts t (line a) u → Puts t (printed s) u
+  printed-bad a q z w = printed-as None q (subst (λ (x : Answer). Puts t (line x) u) z w)
 
-pub printed-good : (s text after : List ℕ) (r end : ℕ) (f : Option ℕ) → f ≡ frame_of s → f ≡ Some end
-    → Wrote text 0 (report (frame_call s end)) r after → Wrote text 0 (printed s) r after
-printed-good s text after r end f e q w = printed-as s text after r f (Some end) e q w
+  pub printed-good : (end : ℕ) → f ≡ Some end → Puts t (report (frame_call s end)) u → Puts t (printed s) u
+  printed-good end q w = printed-as (Some end) q w
 
 pub holds-matched : (s : List ℕ) (end : ℕ) (f : Option ℕ) → f ≡ frame_of s → f ≡ Some end → Holds s end
 holds-matched s end f e q =

@@ -9,6 +9,7 @@ use native.Mathlib.Omega.{arith}
 use borrow.Author.Tests.{eq-eqb, ne_eqb, eqb-true}
 use lib.Dec.{eqb}
 use lib.ListN.{length, length-append}
+use lib.Seq.{sets}
 use Rattle.answer.specs.declared.Answer.{Answer}
 use Rattle.answer.specs.Answer.{refused}
 use Rattle.stream.specs.TagList.{tags_in}
@@ -22,7 +23,8 @@ use Rattle.mac_theorems.proofs.Laws.Answers.Acceptance.{answer-accepted}
 use Rattle.mac_frame.specs.Text.{hex, is_empty, line_end, hex_from}
 use Rattle.mac_frame.specs.Frame.{frame_of, frame_call, report, printed_by, printed, Printed}
 use Rattle.std.specs.Prelude.{Option, None, Some}
-use Rattle.mac_frame.specs.Inner.Wrote.{Wrote}
+use Rattle.mac_frame.specs.Inner.Puts.{Puts}
+use Rattle.mac_frame.specs.declared.text.Text.{Text}
 use Rattle.mac_frame.proofs.Laws.Text.TextPieces.{length-line}
 use Rattle.mac_frame.proofs.Laws.Frame.FrameTests.{within-room, good-frame}
 
@@ -120,5 +122,11 @@ unfolding printed
 fits s = printed-by s (frame_of s) refl
 
 -- the text fits into the array
-pub printed-whole : (s text after : List ℕ) (r : ℕ) → length text ≡ 135168 → Wrote text 0 (printed s) r after → Printed s text r after
-printed-whole s text after r n w = record { size = omega (arith, w.place); fits = omega (arith, w.place, n, fits s); bytes = w.wrote }
+pub printed-whole : (s : List ℕ) (t u : Text) → length t.room.now ≡ 135168 → t.size ≡ 0 → Puts t (printed s) u
+    → Printed s t.room.now u.size u.room.now
+printed-whole s t u n z w =
+    record {
+      size = omega (arith, w.size);
+      fits = omega (arith, w.size, n, fits s);
+      bytes = w.wrote ∙ ap (λ (k : ℕ). sets t.room.now k (printed s)) z;
+    }

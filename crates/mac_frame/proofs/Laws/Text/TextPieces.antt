@@ -1,7 +1,7 @@
 -- Text written piece by piece.
 -- Assumes nothing.
 use Prim.Native.Nat.{ℕ, zero, suc, ◌+◌, ◌-◌, ◌*◌, ◌/◌, ◌%◌, ◌^◌, ◌<◌, ◌≤◌}
-use mathlib.Core.Path.{◌≡◌, refl, sym, ap, ap₂, ◌∙◌}
+use mathlib.Core.Path.{◌≡◌, refl, sym, ap, ap₂, subst, ◌∙◌}
 use mathlib.Core.Bool.{Bool, true, false, ◌||◌}
 use mathlib.Core.List.{List, [], ◌∷◌, ◌++◌, append_assoc}
 use native.Mathlib.Nat.{add-zero, add_assoc, pow-suc}
@@ -14,16 +14,17 @@ use lib.ListN.{length, drop, get_or, length-append, length-drop, drop_of_length-
 use lib.Seq.{sets, length-sets, drop-cons}
 use Rattle.answer.specs.declared.Answer.{Answer}
 use Rattle.mac_frame.specs.Text.{space, newline, digit, decimal_by, decimal, decimal_then, line, hex, is_empty, line_end, hex_from, hex_lines}
-use Rattle.mac_frame.specs.Inner.Wrote.{Wrote}
+use Rattle.mac_frame.specs.Inner.Puts.{Puts}
+use Rattle.mac_frame.specs.declared.text.Text.{Text}
 use Rattle.slices.proofs.Laws.Writing.{sets-append}
 
 -- one piece after another
-pub wrote_then : (text mid after : List ℕ) (at next r : ℕ) (xs ys : List ℕ) → Wrote text at xs next mid → Wrote mid next ys r after
-    → Wrote text at (xs ++ ys) r after
-wrote_then text mid after at next r xs ys p q =
+pub puts_then : (t m u : Text) (xs ys : List ℕ) → Puts t xs m → Puts m ys u → Puts t (xs ++ ys) u
+puts_then t m u xs ys p q =
     record {
-      place = q.place ∙ ap (λ (k : ℕ). k + length ys) p.place ∙ simp length-append (omega arith);
-      wrote = q.wrote ∙ ap₂ (λ (l : List ℕ) (k : ℕ). sets l k ys) p.wrote p.place ∙ sym (sets-append text at xs ys);
+      same_room = q.same_room ∙ p.same_room;
+      size = q.size ∙ ap (λ (k : ℕ). k + length ys) p.size ∙ simp length-append (omega arith);
+      wrote = q.wrote ∙ ap₂ (λ (l : List ℕ) (k : ℕ). sets l k ys) p.wrote p.size ∙ sym (sets-append t.room.now t.size xs ys);
     }
 
 -- ---- decimal
@@ -82,38 +83,30 @@ pub length-decimal : (n : ℕ) → n < 2 ^ 64 → length (decimal n) ≤ 20
 unfolding decimal
 length-decimal n h = digits (suc n) 19 n (omega arith)
 
-pub decimal-wrote-last : (text after : List ℕ) (at n d : ℕ) → n < 10 → d ≡ digit (n % 10) → after ≡ sets text at (d ∷ [])
-    → Wrote text at (decimal n) (at + 1) after
-decimal-wrote-last text after at n d h e p =
-    record { place = rw (decimal-last n h) refl; wrote = p ∙ ap (sets text at) (ap (λ (x : ℕ). x ∷ []) e ∙ sym (decimal-last n h)) }
+pub decimal-puts-last : (t u : Text) (n d : ℕ) → n < 10 → d ≡ digit (n % 10) → Puts t (d ∷ []) u → Puts t (decimal n) u
+decimal-puts-last t u n d h e p = subst (λ (l : List ℕ). Puts t l u) (ap (λ (x : ℕ). x ∷ []) e ∙ sym (decimal-last n h)) p
 
-pub decimal-wrote-more : (text mid after : List ℕ) (at next n d : ℕ) → 10 ≤ n → d ≡ digit (n % 10)
-    → Wrote text at (decimal (n / 10)) next mid → after ≡ sets mid next (d ∷ [])
-    → Wrote text at (decimal n) (next + 1) after
-decimal-wrote-more text mid after at next n d h e w p =
-    let last : Wrote mid next (digit (n % 10) ∷ []) (next + 1) after =
-    record { place = refl; wrote = p ∙ ap (λ (x : ℕ). sets mid next (x ∷ [])) e } in
-    rw (decimal-more n h) (wrote_then text mid after at next (next + 1) (decimal (n / 10)) (digit (n % 10) ∷ []) w last)
+pub decimal-puts-more : (t m u : Text) (n d : ℕ) → 10 ≤ n → d ≡ digit (n % 10) → Puts t (decimal (n / 10)) m → Puts m (d ∷ []) u
+    → Puts t (decimal n) u
+decimal-puts-more t m u n d h e p q =
+    subst (λ (l : List ℕ). Puts t l u) (ap (λ (x : ℕ). decimal (n / 10) ++ (x ∷ [])) e ∙ sym (decimal-more n h))
+    (puts_then t m u (decimal (n / 10)) (d ∷ []) p q)
 
 -- ---- a line
 pub length-decimal-then : (n e : ℕ) → n < 2 ^ 64 → length (decimal_then n e) ≤ 21
 unfolding decimal_then
 length-decimal-then n e h = simp length-append (omega (arith, length-decimal n h))
 
-pub decimal-then-wrote : (text mid after : List ℕ) (at next n e : ℕ) → Wrote text at (decimal n) next mid
-    → after ≡ sets mid next (e ∷ []) → Wrote text at (decimal_then n e) (next + 1) after
+pub decimal-then-puts : (t m u : Text) (n e : ℕ) → Puts t (decimal n) m → Puts m (e ∷ []) u → Puts t (decimal_then n e) u
 unfolding decimal_then
-decimal-then-wrote text mid after at next n e w p =
-    wrote_then text mid after at next (next + 1) (decimal n) (e ∷ []) w (record { place = refl; wrote = p })
+decimal-then-puts t m u n e p q = puts_then t m u (decimal n) (e ∷ []) p q
 
-pub line_wrote : (text mid mid' after : List ℕ) (at first second r : ℕ) (a : Answer)
-    → Wrote text at (decimal_then a.number space) first mid → Wrote mid first (decimal_then a.position space) second mid'
-    → Wrote mid' second (decimal_then a.length newline) r after → Wrote text at (line a) r after
+pub line-puts : (t t' t'' u : Text) (a : Answer) → Puts t (decimal_then a.number space) t' → Puts t' (decimal_then a.position space) t''
+    → Puts t'' (decimal_then a.length newline) u → Puts t (line a) u
 unfolding line
-line_wrote text mid mid' after at first second r a p q w =
-    wrote_then text mid after at first r (decimal_then a.number space)
-    (decimal_then a.position space ++ decimal_then a.length newline) p
-    (wrote_then mid mid' after first second r (decimal_then a.position space) (decimal_then a.length newline) q w)
+line-puts t t' t'' u a p q r =
+    puts_then t t' u (decimal_then a.number space) (decimal_then a.position space ++ decimal_then a.length newline) p
+    (puts_then t' t'' u (decimal_then a.position space) (decimal_then a.length newline) q r)
 
 pub length-line : (a : Answer) → a.number < 2 ^ 64 → a.position < 2 ^ 64 → a.length < 2 ^ 64 → length (line a) ≤ 63
 unfolding line
@@ -124,16 +117,13 @@ length-line a h k l =
     simp length-append (omega arith)
 
 -- ---- lines of hex
--- the text up to byte i is written, and what is left is the rest
-pub record Lines (bytes text₀ : List ℕ) (from : ℕ) (text : List ℕ) (at i : ℕ) : Type 0 where
+-- the text up to byte i is put, and what is left is the rest
+pub record Lines (bytes : List ℕ) (t u : Text) (i : ℕ) : Type 0 where
   pub inside : i ≤ length bytes
-  pub near : at ≤ from + 3 * i
-  pub kept : length text ≡ length text₀
-  pub place : at + length (hex_from (i % 32) (drop i bytes)) ≡ from + length (hex_lines bytes)
-  pub wrote : sets text at (hex_from (i % 32) (drop i bytes)) ≡ sets text₀ from (hex_lines bytes)
-
-pub lines_start : (bytes text : List ℕ) (from : ℕ) → Lines bytes text from text from 0
-lines_start bytes text from = record { inside = omega arith; near = omega arith; kept = refl; place = refl; wrote = refl }
+  pub near : u.size ≤ t.size + 3 * i
+  pub same_room : u.room.ghost_name ≡ t.room.ghost_name
+  pub size : u.size + length (hex_from (i % 32) (drop i bytes)) ≡ t.size + length (hex_lines bytes)
+  pub wrote : sets u.room.now u.size (hex_from (i % 32) (drop i bytes)) ≡ sets t.room.now t.size (hex_lines bytes)
 
 empty-length : (l : List ℕ) → is_empty l ≡ eqb (length l) 0
 empty-length [] = refl
@@ -167,32 +157,32 @@ short-end : (b : ℕ) (ends : Bool) → length (hex b ++ line_end ends) ≤ 3
 short-end b true = omega arith
 short-end b false = omega arith
 
-module _ (bytes text₀ text after : List ℕ) (from at r i : ℕ) (ends : Bool) where
-  pub lines-again : Lines bytes text₀ from text at i → i < length bytes → ends ≡ (eqb (i % 32) 31 || eqb (i + 1) (length bytes))
-      → Wrote text at (hex (get_or bytes i 0) ++ line_end ends) r after → Lines bytes text₀ from after r (i + 1)
-  lines-again s h e w =
-      let piece = hex (get_or bytes i 0) ++ line_end ends in
-      let rest = hex_from ((i + 1) % 32) (drop (i + 1) bytes) in
-      let next = hex-next bytes i ends h e in
-      let p = w.place in
-      record {
-        inside = omega arith;
-        near = omega (arith, s.near, short-end (get_or bytes i 0) ends);
-        kept = ap length w.wrote ∙ length-sets text at piece ∙ s.kept;
-        place =
-            ap (λ (k : ℕ). k + length rest) p ∙ add_assoc at (length piece) (length rest)
-            ∙ ap (λ (k : ℕ). at + k) (sym (length-append piece rest) ∙ ap length (sym next)) ∙ s.place;
-        wrote =
-            ap₂ (λ (l : List ℕ) (k : ℕ). sets l k rest) w.wrote p ∙ sym (sets-append text at piece rest)
-            ∙ ap (sets text at) (sym next) ∙ s.wrote;
-      }
+pub lines-again : (bytes : List ℕ) (t u v : Text) (i : ℕ) (ends : Bool) → Lines bytes t u i → i < length bytes
+    → ends ≡ (eqb (i % 32) 31 || eqb (i + 1) (length bytes))
+    → Puts u (hex (get_or bytes i 0) ++ line_end ends) v → Lines bytes t v (i + 1)
+lines-again bytes t u v i ends s h e w =
+    let piece = hex (get_or bytes i 0) ++ line_end ends in
+    let rest = hex_from ((i + 1) % 32) (drop (i + 1) bytes) in
+    let next = hex-next bytes i ends h e in
+    let p = w.size in
+    record {
+      inside = omega arith;
+      near = omega (arith, s.near, short-end (get_or bytes i 0) ends);
+      same_room = w.same_room ∙ s.same_room;
+      size =
+          ap (λ (k : ℕ). k + length rest) p ∙ add_assoc u.size (length piece) (length rest)
+          ∙ ap (λ (k : ℕ). u.size + k) (sym (length-append piece rest) ∙ ap length (sym next)) ∙ s.size;
+      wrote =
+          ap₂ (λ (l : List ℕ) (k : ℕ). sets l k rest) w.wrote p ∙ sym (sets-append u.room.now u.size piece rest)
+          ∙ ap (sets u.room.now u.size) (sym next) ∙ s.wrote;
+    }
 
-pub lines_end : (bytes text₀ text : List ℕ) (from at i : ℕ) → Lines bytes text₀ from text at i → length bytes ≤ i
-    → Wrote text₀ from (hex_lines bytes) at text
+pub lines_end : (bytes : List ℕ) (t u : Text) (i : ℕ) → Lines bytes t u i → length bytes ≤ i → Puts t (hex_lines bytes) u
 unfolding hex_from
-lines_end bytes text₀ text from at i s h =
+lines_end bytes t u i s h =
     let d : drop i bytes ≡ [] = drop_of_length-le bytes {i = i} h in
     record {
-      place = sym (add-zero at) ∙ ap (λ (l : List ℕ). at + length (hex_from (i % 32) l)) (sym d) ∙ s.place;
-      wrote = ap (λ (l : List ℕ). sets text at (hex_from (i % 32) l)) (sym d) ∙ s.wrote;
+      same_room = s.same_room;
+      size = sym (add-zero u.size) ∙ ap (λ (l : List ℕ). u.size + length (hex_from (i % 32) l)) (sym d) ∙ s.size;
+      wrote = ap (λ (l : List ℕ). sets u.room.now u.size (hex_from (i % 32) l)) (sym d) ∙ s.wrote;
     }

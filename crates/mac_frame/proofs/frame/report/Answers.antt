@@ -6,37 +6,13 @@ use Rattle.mac_frame.proofs.Laws.Text.TextPieces.{length-line}
 use Rattle.mac_frame.proofs.Laws.Frame.FrameTests.{report-refused, report-accepted, within-room, answer-framed, output-framed}
 use Rattle.mac_frame.proofs.frame.report.Goals as goal
 
-pub returns-then-answer-ne0 : goal.returns-then-answer-ne0
-unfolding between
-returns-then-answer-ne0 c =
-    let e = answer-framed c.args.input.now c.output-out.result _ c.args.end _ (search rules) c.list_stream-answer.ensures in
-    report-refused _ c.output-out.result _ _ _ _ e c.if-answer-ne0.true c.put_line-next.ensures
-
 pub slice_bounds-out-end : goal.slice_bounds-out-end
 unfolding between
 slice_bounds-out-end c =
     let e = answer-framed c.args.input.now c.output-out.result _ c.args.end _ (search rules) c.list_stream-answer.ensures in
     let n : length c.list_stream-answer.new.out ≡ length c.output-out.result = c.list_stream-answer.auto.out in
     let m : length c.output-out.result ≡ 65536 = search rules in
-    omega (arith, within-room _ _ e c.if-answer-ne0.false)
-
-pub put_lines-requires : goal.put_lines-requires
-unfolding between
-put_lines-requires c =
-    let e = answer-framed c.args.input.now c.output-out.result _ c.args.end _ (search rules) c.list_stream-answer.ensures in
-    let a = c.list_stream-answer.result in
-    let p = c.put_line-next.ensures.place in
-    let n : length (take a.length c.list_stream-answer.new.out) ≤ a.length = simp length-take (omega arith) in
-    let l = length-line a (search rules) (search rules) (search rules) in
-    let w = within-room _ _ e c.if-answer-ne0.false in
-    (omega arith, omega arith)
-
-pub returns : goal.returns
-unfolding between
-returns c =
-    let e = answer-framed c.args.input.now c.output-out.result _ c.args.end _ (search rules) c.list_stream-answer.ensures in
-    let o = output-framed c.args.input.now c.output-out.result _ c.args.end _ (search rules) c.list_stream-answer.ensures in
-    report-accepted _ c.output-out.result _ _ _ _ _ _ _ e c.if-answer-ne0.false o c.put_line-next.ensures c.put_lines.ensures
+    omega (arith, within-room _ _ e c.if-answer-eq0.true)
 
 pub slice_bounds-put_lines-end : goal.slice_bounds-put_lines-end
 unfolding between
@@ -44,4 +20,28 @@ slice_bounds-put_lines-end c =
     let e = answer-framed c.args.input.now c.output-out.result _ c.args.end _ (search rules) c.list_stream-answer.ensures in
     let n : length c.list_stream-answer.new.out ≡ length c.output-out.result = c.list_stream-answer.auto.out in
     let m : length c.output-out.result ≡ 65536 = search rules in
-    sym (length-take-le _ _ (omega (arith, within-room _ _ e c.if-answer-ne0.false)))
+    sym (length-take-le _ _ (omega (arith, within-room _ _ e c.if-answer-eq0.true)))
+
+pub put_lines-requires : goal.put_lines-requires
+unfolding between
+put_lines-requires c =
+    let e = answer-framed c.args.input.now c.output-out.result _ c.args.end _ (search rules) c.list_stream-answer.ensures in
+    let a = c.list_stream-answer.result in
+    let p = c.put_line.ensures.size in
+    let n : length (take a.length c.list_stream-answer.new.out) ≤ a.length = simp length-take (omega arith) in
+    let l = length-line a (search rules) (search rules) (search rules) in
+    let w = within-room _ _ e c.if-answer-eq0.true in
+    (omega arith, omega arith)
+
+pub returns-then-answer-eq0 : goal.returns-then-answer-eq0
+unfolding between
+returns-then-answer-eq0 c =
+    let e = answer-framed c.args.input.now c.output-out.result _ c.args.end _ (search rules) c.list_stream-answer.ensures in
+    let o = output-framed c.args.input.now c.output-out.result _ c.args.end _ (search rules) c.list_stream-answer.ensures in
+    report-accepted _ _ _ _ e _ c.output-out.result _ c.if-answer-eq0.true o c.put_line.ensures c.put_lines.ensures
+
+pub returns-else-answer-eq0 : goal.returns-else-answer-eq0
+unfolding between
+returns-else-answer-eq0 c =
+    let e = answer-framed c.args.input.now c.output-out.result _ c.args.end _ (search rules) c.list_stream-answer.ensures in
+    report-refused _ _ _ _ e c.if-answer-eq0.false c.put_line.ensures
