@@ -11,7 +11,7 @@ use Rattle.slices.specs.Lists.{between}
 use Rattle.slices.proofs.Laws.Parts.{length-between}
 use Rattle.mac_frame.specs.Frame.{input_limit, big32, frame_of, frame_call}
 use Rattle.mac_frame.specs.Theorems.{Framed, call_of, ReadBack}
-use Rattle.std.specs.Prelude.{Option, None, Some}
+use Rattle.std.specs.Prelude.{Some}
 use Rattle.mac_frame.proofs.Laws.Frame.FrameTests.{filled, good-frame}
 
 -- ---- a length by its four bytes

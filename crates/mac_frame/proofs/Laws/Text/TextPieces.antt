@@ -11,7 +11,7 @@ use native.Mathlib.Omega.{arith}
 use borrow.Author.Tests.{lt-ltb, le-ltb, eq-eqb, ne_eqb}
 use lib.Dec.{eqb}
 use lib.ListN.{length, drop, get_or, length-append, length-drop, drop_of_length-le}
-use lib.Seq.{sets, length-sets, drop-cons}
+use lib.Seq.{sets, drop-cons}
 use Rattle.answer.specs.declared.Answer.{Answer}
 use Rattle.mac_frame.specs.Text.{space, newline, digit, decimal_by, decimal, decimal_then, line, hex, is_empty, line_end, hex_from, hex_lines}
 use Rattle.mac_frame.specs.Inner.Puts.{Puts}

@@ -1,4 +1,3 @@
-use Rattle.std.proofs.Common.{rules}
 use Rattle.mac_frame.specs.Frame.{big32}
 use Rattle.mac_frame.proofs.frame.big32.Goals as goal
 
