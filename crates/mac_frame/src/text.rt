@@ -4,6 +4,7 @@ ghost use Rattle.mac_frame.specs.Text as Spec;
 ghost use Rattle.mac_frame.specs.Inner.Puts.{Puts};
 
 use answer::Answer;
+use itoa::Buffer;
 
 // The buffer, and how much text there is so far. What does not fit is not written, but counted.
 #[derive(Drop)]
@@ -37,17 +38,12 @@ impl<'a> Text<'a> {
         self.size += bytes.len();
     }
 
-    // No `write!`: it promises what it writes only where it gives Ok, and no clause says that it does.
     fn put_decimal(&mut self, n: u64)
         requires { self.old.size < 2 ^ 61 }
         ensures { Puts self.old (Spec.decimal n) self.new }
     {
-        let last = digit((n % 10) as u8);
-        if n < 10 {
-            return self.put(&[last]);
-        }
-        self.put_decimal(n / 10);
-        self.put(&[last]);
+        let mut digits = Buffer::new();
+        self.put(digits.format(n).as_bytes());
     }
 
     fn put_decimal_then(&mut self, n: u64, end: u8)
@@ -62,12 +58,13 @@ impl<'a> Text<'a> {
         requires { self.old.size < 2 ^ 60 }
         ensures { Puts self.old (Spec.line answer) self.new }
     {
-        self.put_decimal_then(answer.number as u64, b' ');
+        self.put_decimal_then(u64::from(answer.number), b' ');
         self.put_decimal_then(answer.position as u64, b' ');
         self.put_decimal_then(answer.length as u64, b'\n');
     }
 
-    // A byte in hex, and the line's end where it ends the line.
+    // A byte in hex, and the line's end where it ends the line. (`write!` promises what it writes only where it gives Ok, and no clause
+    // says that it does.)
     fn put_hex(&mut self, b: u8, ends: bool)
         requires { self.old.size < 2 ^ 61 }
         ensures { Puts self.old (Spec.hex b ++ Spec.line_end ends) self.new }

@@ -14,6 +14,8 @@ use lib.ListN.{length, drop, get_or, length-append, length-drop, drop_of_length-
 use lib.Seq.{sets, drop-cons}
 use Rattle.answer.specs.declared.Answer.{Answer}
 use Rattle.mac_frame.specs.Text.{space, newline, digit, decimal_by, decimal, decimal_then, line, hex, is_empty, line_end, hex_from, hex_lines}
+use Rattle.std.specs.Fmt.{decimal as std_decimal}
+use Rattle.std.proofs.lemmas.Fmt.{decimal_by_steps, length-decimal-le}
 use Rattle.mac_frame.specs.Inner.Puts.{Puts}
 use Rattle.mac_frame.specs.declared.text.Text.{Text}
 use Rattle.slices.proofs.Laws.Writing.{sets-append}
@@ -49,48 +51,27 @@ decimal-enough zero m n h g = absurd (omega arith)
 decimal-enough (suc k) zero n h g = absurd (omega arith)
 decimal-enough (suc k) (suc m) n h g = shorter k m n h g (decimal-enough k m (n / 10)) (dec_lt n 10)
 
-decimal-last : (n : ℕ) → n < 10 → decimal n ≡ digit (n % 10) ∷ []
-unfolding decimal
-decimal-last n h =
-    let e : n % 10 ≡ n = omega arith in
-    rw e (decimal-few n n h)
-
 decimal-more : (n : ℕ) → 10 ≤ n → decimal n ≡ decimal (n / 10) ++ (digit (n % 10) ∷ [])
 unfolding decimal
 decimal-more n h =
     decimal-many n n h
     ∙ ap (λ (l : List ℕ). l ++ (digit (n % 10) ∷ [])) (decimal-enough n (suc (n / 10)) (n / 10) (omega arith) (omega arith))
 
-tenth : (j i n : ℕ) → n < 10 ^ suc j → j ≡ suc i → n / 10 < 10 ^ suc i
-tenth j i n h e =
-    let g : n < 10 ^ suc (suc i) = rw e at h in
-    let p : 10 ^ suc (suc i) ≡ 10 ^ suc i * 10 = pow-suc 10 (suc i) in
-    omega arith
+-- it is what the library prints
+printed-digit : (n : ℕ) → n < 10 → (48 + n) ∷ [] ≡ decimal n
+unfolding decimal
+printed-digit n h = sym (decimal-few n n h ∙ ap (λ (x : ℕ). x ∷ []) (simp (lt-ltb n 10 h)))
 
--- a number below 10 ^ (j + 1) has at most j + 1 digits
-digits-by : (k j n : ℕ) → n < 10 ^ suc j → ((i : ℕ) → j ≡ suc i → length (decimal_by k (n / 10)) ≤ j) → Dec (n < 10)
-    → length (decimal_by (suc k) n) ≤ suc j
-digits-by k j n h ih (yes p) = rw (decimal-few k n p) (omega arith)
-digits-by k zero n h ih (no p) = absurd (omega arith)
-digits-by k (suc i) n h ih (no p) = rw (decimal-many k n (omega arith)) (simp length-append (omega (arith, ih i refl)))
+printed-more : (n : ℕ) (l : List ℕ) → 10 ≤ n → l ≡ decimal (n / 10) → l ++ ((48 + n % 10) ∷ []) ≡ decimal n
+printed-more n l h e =
+    let d : digit (n % 10) ≡ 48 + n % 10 = simp (lt-ltb (n % 10) 10 (omega arith)) in
+    ap₂ (λ (k : List ℕ) (x : ℕ). k ++ (x ∷ [])) e (sym d) ∙ sym (decimal-more n h)
 
-digits : (k j n : ℕ) → n < 10 ^ suc j → length (decimal_by k n) ≤ suc j
-unfolding decimal_by
-digits zero j n h = omega arith
-digits (suc k) j n h = digits-by k j n h (λ i e. rw e (digits k i (n / 10) (tenth j i n h e))) (dec_lt n 10)
+pub printed-decimal : (n : ℕ) → n < 2 ^ 64 → std_decimal n ≡ decimal n
+printed-decimal = decimal_by_steps (λ n l. l ≡ decimal n) printed-digit printed-more
 
 pub length-decimal : (n : ℕ) → n < 2 ^ 64 → length (decimal n) ≤ 20
-unfolding decimal
-length-decimal n h = digits (suc n) 19 n (omega arith)
-
-pub decimal-puts-last : (t u : Text) (n d : ℕ) → n < 10 → d ≡ digit (n % 10) → Puts t (d ∷ []) u → Puts t (decimal n) u
-decimal-puts-last t u n d h e p = subst (λ (l : List ℕ). Puts t l u) (ap (λ (x : ℕ). x ∷ []) e ∙ sym (decimal-last n h)) p
-
-pub decimal-puts-more : (t m u : Text) (n d : ℕ) → 10 ≤ n → d ≡ digit (n % 10) → Puts t (decimal (n / 10)) m → Puts m (d ∷ []) u
-    → Puts t (decimal n) u
-decimal-puts-more t m u n d h e p q =
-    subst (λ (l : List ℕ). Puts t l u) (ap (λ (x : ℕ). decimal (n / 10) ++ (x ∷ [])) e ∙ sym (decimal-more n h))
-    (puts_then t m u (decimal (n / 10)) (d ∷ []) p q)
+length-decimal n h = subst (λ (l : List ℕ). length l ≤ 20) (printed-decimal n h) (length-decimal-le 20 n (omega arith) (omega arith) h)
 
 -- ---- a line
 pub length-decimal-then : (n e : ℕ) → n < 2 ^ 64 → length (decimal_then n e) ≤ 21
