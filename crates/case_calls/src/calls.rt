@@ -3,15 +3,14 @@ use crate::print;
 use answer::Answer;
 use mac::verdict::{Checked, Verdict};
 use mac::{list_mode, signature_mode};
-use selection::select::Signature;
 use std::io;
 use std::io::Write;
 
-// A mode, and what its calls take beside a data set.
+// A mode, and what its calls take beside a data set; `which` is the number of a signature, or none is named.
 #[derive(Clone, Copy)]
 pub enum Mode<'a> {
     List { list: &'a [u8] },
-    Signature { uid: &'a [u8], which: Signature },
+    Signature { uid: &'a [u8], which: Option<u64> },
 }
 
 impl<'a> Mode<'a> {

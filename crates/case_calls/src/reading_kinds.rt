@@ -1,7 +1,9 @@
 // The kinds of cases of the reading and the lookup.
 use crate::print;
+use answer::Answer;
+use dataset::extent::Extent;
 use dataset::reading::OneOutcome;
-use dataset::{lookup, reading};
+use dataset::{extent, lookup, reading};
 use std::io;
 use std::io::Write;
 
@@ -30,26 +32,30 @@ fn print_element<W: Write>(
 
 // What the reader of one element answers at the start of the data, with so many levels left.
 pub fn print_one<W: Write>(writer: &mut W, d: &[u8], left: u32) -> io::Result<()> {
-    match reading::read_one(d, false, left, d.len(), 0, 0) {
-        OneOutcome::Refused(answer) => writeln!(writer, " {} {}", answer.number, answer.position),
-        OneOutcome::End(_) => writeln!(writer, " end"),
-        OneOutcome::Element {
+    let x = Extent {
+        left,
+        ..extent::whole(d.len())
+    };
+    match reading::read_one(d, x, 0) {
+        Err(answer) => writeln!(writer, " {} {}", answer.number, answer.position),
+        Ok(OneOutcome::End(_)) => writeln!(writer, " end"),
+        Ok(OneOutcome::Element {
             tag,
             vr,
             start,
             end,
             next,
-        } => print_element(writer, tag, vr, start, end, next),
+        }) => print_element(writer, tag, vr, start, end, next),
     }
 }
 
 pub fn print_lookup<W: Write>(writer: &mut W, d: &[u8], tag: u32) -> io::Result<()> {
-    let mut number: u8 = 0;
-    let mut position: usize = 0;
-    let mut present = false;
-    let part = lookup::lookup(d, tag, &mut number, &mut position, &mut present);
-    let yes_or_no = if present { "yes" } else { "no" };
-    write!(writer, " {number} {position} {yes_or_no} {}", part.len())?;
-    print::hex(writer, part)?;
+    let found = lookup::lookup(d, tag);
+    let Answer {
+        number, position, ..
+    } = found.answer;
+    let yes_or_no = if found.present { "yes" } else { "no" };
+    write!(writer, " {number} {position} {yes_or_no} {}", found.part.len())?;
+    print::hex(writer, found.part)?;
     writeln!(writer)
 }

@@ -10,7 +10,6 @@ ghost use Rattle.std.specs.Prelude.{◌≤◌};
 use crate::{bytes, fields};
 use case_calls::calls;
 use case_calls::calls::Mode;
-use selection::select::Signature;
 use std::io;
 use std::io::Write;
 
@@ -70,10 +69,10 @@ fn list_of<'a>(args: &[u8], room: &'a mut [u8]) -> Option<(Mode<'a>, &'a [u8])> 
 }
 
 // WHICH: a number in decimal, or none.
-fn which_of(field: &[u8]) -> Option<Signature> {
+fn which_of(field: &[u8]) -> Option<Option<u64>> {
     match field {
-        b"none" => Some(Signature::Unnamed),
-        _ => Some(Signature::Number(fields::number_of(field)? as u64)),
+        b"none" => Some(None),
+        _ => Some(Some(fields::number_of(field)? as u64)),
     }
 }
 
