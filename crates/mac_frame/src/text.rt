@@ -58,7 +58,7 @@ impl<'a> Text<'a> {
         requires { self.old.size < 2 ^ 60 }
         ensures { Puts self.old (Spec.line answer) self.new }
     {
-        self.put_decimal_then(u64::from(answer.number), b' ');
+        self.put_decimal_then(answer.number as u64, b' ');
         self.put_decimal_then(answer.position as u64, b' ');
         self.put_decimal_then(answer.length as u64, b'\n');
     }

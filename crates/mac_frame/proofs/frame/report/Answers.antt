@@ -3,8 +3,7 @@ use Rattle.std.proofs.Common.{length, length-take, rules, sym, take, ◌≡◌, 
 use native.Mathlib.Omega.{arith}
 use lib.Seq.{length-take-le}
 use Rattle.slices.specs.Lists.{between}
-use Rattle.mac.specs.ListMode.{answer, result}
-use Rattle.mac.specs.Result.{output_after}
+use Rattle.mac.specs.ListMode.{answer}
 use Rattle.mac_frame.specs.Frame.{frame_call}
 use Rattle.mac_frame.proofs.Laws.Text.TextPieces.{length-line}
 use Rattle.mac_frame.proofs.Laws.Frame.FrameTests.{report-refused, report-accepted, within-room, answer-framed, output-framed}
