@@ -32,7 +32,7 @@ use Rattle.stream.specs.Listed.{tags_answer}
 use Rattle.stream.specs.Walk.{signed_stream, WrittenAs}
 use Rattle.stream.proofs.Laws.Listed.ListedAnswers.{tags-end}
 use Rattle.stream.specs.Walk as walk
-use Rattle.mac.specs.Result.{Result, Streamed, CheckedAs}
+use Rattle.mac.specs.Result.{Streamed, CheckedAs}
 use Rattle.mac.specs.SignatureMode.{stream_by, selection_answer, stream_in, answer_to15, measure, answer, result, stream_call, check_call}
 use Rattle.mac.specs.Inner.Verdict.{CheckOf, length_of, length_answer, refused_check}
 use Rattle.mac.specs.Inner.Calls.{signature_call, CallAnswered, SelectionRefused, list_in, SelectionLies, SelectedWritten, SignatureSelected}

@@ -8,17 +8,16 @@ use mathlib.Core.List.{List, ◌++◌}
 use mathlib.Core.Option.{Option, some}
 use mathlib.Core.Option as Opt
 use native.Mathlib.Omega.{arith}
-use lib.Dec.{eqb}
 use lib.ListN.{length, take, drop, get_or}
-use lib.Seq.{take_at, length-take-le}
-use borrow.Author.Tests.{eq-eqb, ne_eqb, eqb-true, eqb-false, le-leb}
+use lib.Seq.{take_at}
+use borrow.Author.Tests.{eq-eqb, ne_eqb, le-leb}
 use Rattle.answer.specs.declared.Answer.{Answer}
 use Rattle.answer.specs.Answer.{accepted, refused}
 use Rattle.digest.specs.Message.{limit, digest_of, hashing}
 use Rattle.digest.specs.Sha256.{sha256}
 use Rattle.stream.specs.Walk.{left_in}
 use Rattle.digest.specs.declared.message.Hashed.{Hashed}
-use Rattle.mac.specs.Result.{Result, output_after, neither, same, differs, verdict_code, compared, verdict_of, Streamed, CheckedAs}
+use Rattle.mac.specs.Result.{Result, output_after, same, differs, verdict_code, compared, verdict_of, Streamed, CheckedAs}
 use Rattle.slices.specs.Lists.{same_bytes}
 use Rattle.selection.specs.declared.select.Algorithm.{Algorithm}
 use Rattle.selection.specs.declared.select.Algorithm.TheVariants as algorithm

@@ -1,5 +1,4 @@
 -- `measured` meets its contract: each place by its law in SignatureMode. Assumes nothing.
-use Rattle.std.proofs.Common.{rules}
 use Rattle.std.proofs.lemmas.Result.{err_from_is_err_and}
 use Rattle.mac.proofs.Laws.SignatureMode.SignatureMode as steps
 use Rattle.mac.proofs.signature_mode.measured.Goals as goal

@@ -1,5 +1,4 @@
 -- `check_of` meets its contract: each place by its law in VerdictOfChecks. Assumes nothing.
-use Rattle.std.proofs.Common.{rules}
 use Rattle.mac.proofs.Laws.Verdict.VerdictOfChecks as steps
 use Rattle.mac.proofs.verdict.check_of.Goals as goal
 

@@ -23,7 +23,6 @@ use Rattle.dataset.proofs.Laws.Reading.Unfolding.{fragments-by}
 use Rattle.stream.specs.Stream.{item_tag_bytes, sequence_delimiter_bytes, fragments_stream}
 use Rattle.stream.specs.Inner.Writer.{holds_none, FragmentsWalk}
 use Rattle.slices.proofs.Laws.Parts.{length-between}
-use Rattle.slices.proofs.Laws.Writing.{two_runs}
 use Rattle.stream.proofs.Laws.Writer.Walks.{Front, Going, start, go_on, stop-at, done}
 
 pub record FragmentsLoop (d : List ℕ) (left stop from : ℕ) (xs₀ : List ℕ) (to₀ : ℕ) (xs : List ℕ) (at to : ℕ) : Type 0 where

@@ -1,6 +1,5 @@
 -- `measure` meets its contract: each place by its law in Measuring. Assumes nothing.
 use Rattle.std.proofs.Common.{arith}
-use Rattle.std.proofs.lemmas.Result.{err_from_is_err_and}
 use Rattle.answer.specs.Answer.{◌or_else◌}
 use Rattle.answer.specs.Step.{step_by, test_by}
 use Rattle.dataset.proofs.Laws.Extent.Outside.{inside-lies, outside-fault}
