@@ -24,11 +24,6 @@ module _ (a : Algorithm) (s : Running) where
   unfolding finishing
   finishing-accepted e = rw e refl
 
-  pub finishing-refused : accepts s 0 ≡ false
-      → finishing a s ≡ record { answer = refused 25 0; digest = replicate a.size 0; running = s }
-  unfolding finishing
-  finishing-refused e = rw e refl
-
 module _ (a : Algorithm) where
   pub hashing-accepted : (m : List ℕ) → leb (length m) limit ≡ true → hashing a m ≡ record { answer = accepted 0; digest = digest_of a m }
   unfolding hashing
