@@ -1,9 +1,9 @@
--- Places: the values and the items that stand in them, and what `value_of`, `mac_id` and `find_item_under` say of them. Assumes nothing.
+-- The values that stand in places, by what `value_of` says of them; and what is needed next. Assumes nothing.
 use Rattle.std.proofs.Common.{if◌then◌else◌}
 use Rattle.std.specs.Prelude.{Result, Ok, Err, None, Some}
 use Rattle.std.specs.Prelude as code
 use Rattle.std.specs.Borrow.{Bor}
-use Rattle.std.specs.Option.{MatchOption, ok_or}
+use Rattle.std.specs.Option.{ok_or}
 use Rattle.std.specs.Slice.{IsGetRangeResult}
 use borrow.Author.Tests.{eq-eqb}
 use Rattle.std.proofs.lemmas.Bool.{eqb-true}
@@ -17,20 +17,13 @@ use native.Mathlib.Omega.{arith}
 use lib.Dec.{eqb}
 use lib.ListN.{length}
 use Rattle.answer.specs.declared.Answer.{Answer}
-use Rattle.slices.specs.Lists.{between, same_bytes}
+use Rattle.slices.specs.Lists.{between}
 use Rattle.dataset.specs.Tree.{Element}
-use Rattle.dataset.specs.Lookup.{element_of}
-use Rattle.dataset.specs.Tags.{mac_id_number}
-use Rattle.selection.specs.Selection.{items_of, value_of, item_where, mac_id_of, is_id}
-use Rattle.dataset.specs.Extent.{items_in}
-use Rattle.dataset.specs.Place.{Lies, Placed}
-use Rattle.selection.specs.Inner.Selection.{bytes_of, ValueAt, MacIdAt, has_key, TestsKey, FoundItemAs, FoundItemIn, FoundItemUnder}
-use Rattle.dataset.specs.declared.extent.Extent.{Extent}
+use Rattle.selection.specs.Selection.{value_of}
+use Rattle.dataset.specs.Place.{Placed}
+use Rattle.selection.specs.Inner.Selection.{bytes_of, ValueAt}
 use Rattle.dataset.specs.declared.seek.Place.{Place}
 use Rattle.dataset.specs.declared.seek.Place.TheVariants as place
-use Rattle.selection.specs.declared.items.ItemKey.{ItemKey}
-use Rattle.selection.specs.declared.items.ItemKey.TheVariants as key
-use Rattle.selection.specs.declared.items.FoundItem.{FoundItem}
 
 -- cases that cannot be
 pub never : {A : Type 0} → ◌≡◌ {A = ℕ} 0 1 → A
@@ -104,50 +97,3 @@ module _ (want : ℕ) (d : List ℕ) (p : Place) where
     value-at h r g =
         let k : p ≡ place.Value want start end = cc in
         record { says = λ o q. let v = value-in start end k o q in got r g v.order v.inside ∙ sym v.same }
-
--- what follows of what is said of bytes, where there are any
-pub matched : (o : code.Option (Bor (List ℕ))) (P : Type 0) (Q R : Bor (List ℕ) → Type 0) → MatchOption o P Q → ((x : Bor (List ℕ)) → Q x → R x) → MatchOption o P R
-matched None P Q R h f = h
-matched (Some x) P Q R h f = f x h
-
--- ---- the key of an item
-is-id : (m : code.Option (Bor (List ℕ))) (r : Bool) (w : List ℕ) → MatchOption m (r ≡ false) (λ x. r ≡ same_bytes x.now w) → r ≡ is_id w (bytes_of m)
-is-id None r w h = h
-is-id (Some x) r w h = h
-
-module _ (d : List ℕ) (w : ItemKey) (index : ℕ) (p : Place) where
-  pub key-number : (number : ℕ) → w ≡ key.Number number → TestsKey d w index p (eqb index number)
-  key-number number e es q = rw e
-
-  pub key-id : (id : Bor (List ℕ)) → w ≡ key.MacId id → (m : code.Option (Bor (List ℕ))) → MacIdAt d p m
-      → (r : Bool) → MatchOption m (r ≡ false) (λ x. r ≡ same_bytes x.now id.now) → TestsKey d w index p r
-  unfolding mac_id_of
-  key-id id e m g r h es q = rw (e, ← g.says (element_of mac_id_number es) q) (is-id m r id.now h)
-
--- ---- the item that is meant
-
--- what the `else` of a `let .. else` for a sequence has of the place
-abbrev pub NoItems : Place → Type 0
-NoItems p = (x : Extent) → p ≡ place.Items x → ⊥
-
-module _ (d : List ℕ) (p : Place) (w : ItemKey) where
-  pub item-none : NoItems p → FoundItemUnder d p w None
-  item-none h = record { says = by-element }
-    where
-      by-element : (o : Option Element) → Placed d o p → FoundItemAs d (item_where (has_key d w) (items_of o)) None
-      by-element Opt.none q = refl
-      by-element (some (Element.value at tag vr span)) q = refl
-      by-element (some (Element.sequence at tag span items)) q = absurd (h q.0 q.1)
-      by-element (some (Element.fragments at tag span parts)) q = refl
-
-  pub item-found : (x : Extent) → p ≡ place.Items x → (r : code.Option FoundItem) → (Lies d x → FoundItemIn d w 0 (items_in d x) r) → FoundItemUnder d p w r
-  item-found x is r k = record { says = by-element }
-    where
-      by-element : (o : Option Element) → Placed d o p → FoundItemAs d (item_where (has_key d w) (items_of o)) r
-      by-element Opt.none q = never (cc)
-      by-element (some (Element.value at tag vr span)) q = never (cc q.0)
-      by-element (some (Element.sequence at tag span items)) q =
-          let e : x ≡ q.0 = cc q.1 in
-          let h = rw e at k in
-          rw q.2.reads at (h q.2.lies)
-      by-element (some (Element.fragments at tag span parts)) q = never (cc)

@@ -1,4 +1,4 @@
--- What 18 to 23 give, place by place of `signature_item` and `select`, with the facts of the place as premises. Assumes nothing.
+-- What 18 to 23 give, place by place of `select`, with the facts of the place as premises. Assumes nothing.
 use Rattle.std.specs.Prelude.{Result, Ok, Err, None, Some, unwrap_or}
 use Rattle.std.specs.Prelude as code
 use Rattle.std.specs.Borrow.{Bor}
@@ -19,20 +19,12 @@ use Rattle.dataset.specs.Place.{SoughtIn}
 use Rattle.selection.specs.Inner.Selection.{bytes_of, MacIdAt, ItemFound, FoundItemAs, FoundItemUnder, SignatureItemAt, ParametersSelected}
 use Rattle.selection.specs.Selected.{SelectionAs, SelectedIn}
 use Rattle.dataset.specs.declared.extent.Extent.{Extent}
-use Rattle.dataset.specs.declared.seek.Place.{Place}
 use Rattle.dataset.specs.declared.seek.Sought.{Sought}
 use Rattle.selection.specs.declared.items.ItemKey.TheVariants as key
 use Rattle.selection.specs.declared.items.FoundItem.{FoundItem}
 use Rattle.selection.specs.declared.select.Selected.{Selected}
 use Rattle.dataset.proofs.Laws.Seek.Places.{IsSought, sought-past, sought-refused}
 use Rattle.selection.proofs.Laws.PlaceValues.{never}
-
--- ---- `signature_item`
-pub signature-chosen : (d : List ℕ) (which : code.Option ℕ) (p : Place) (n : ℕ) (f : code.Option FoundItem) → n ≡ unwrap_or which 0
-    → FoundItemUnder d p (key.Number n) f → SignatureItemAt d which p f
-unfolding signature_item
-signature-chosen d None p n f e g = let h = rw e at g in record { says = λ es q. h.says (element_of digital_signatures_sequence es) q }
-signature-chosen d (Some number) p n f e g = let h = rw e at g in record { says = λ es q. h.says (element_of digital_signatures_sequence es) q }
 
 -- ---- an item
 

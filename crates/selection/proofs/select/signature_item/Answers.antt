@@ -1,6 +1,7 @@
--- `signature_item` meets its contract, by its law in SelectPlaces. Assumes nothing.
-use Rattle.selection.proofs.Laws.Select.SelectPlaces as steps
+use Rattle.std.proofs.Common.{rules}
+use Rattle.selection.specs.Selection.{signature_item}
 use Rattle.selection.proofs.select.signature_item.Goals as goal
 
 pub returns : goal.returns
-returns c = search steps.signature-chosen
+unfolding signature_item
+returns c = search rules
