@@ -18,7 +18,7 @@ pub enum Algorithm {
 }
 
 // What is selected: the list, the bytes of the data set from start to end; the algorithm; the data set that is signed, and that of the
-// signature item.
+// signature item. start and end stay numbers: `IsSelected` says where in the data set the list lies.
 #[derive(Clone, Copy, Debug, PartialEq, Eq)]
 pub struct Selected {
     pub start: usize,
