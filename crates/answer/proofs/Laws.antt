@@ -1,4 +1,3 @@
-pub mod Chains
 pub mod OrElse
 pub mod Refusals
 pub mod Steps

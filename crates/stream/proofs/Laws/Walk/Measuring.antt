@@ -13,7 +13,6 @@ use Rattle.std.specs.Prelude.{Option, Result, Ok, Err}
 use Rattle.answer.specs.Step.{step_by, test_by}
 use Rattle.answer.proofs.Laws.OrElse.{or-else-second, or-else-assoc, both-accepted}
 use Rattle.answer.proofs.Laws.Steps.{step-accepted, step-refuses, test-accepted, test-refused}
-use Rattle.answer.proofs.Laws.Chains.{test-stops-step, test-then-step}
 use Rattle.dataset.specs.Reading.{answer_of}
 use Rattle.dataset.specs.Place.{Lies}
 use Rattle.dataset.specs.Extent.{elements_in, outside_answer}
@@ -54,23 +53,6 @@ module _ (l d : List ℕ) (x : Extent) (item : Option Extent) where
   measure-is : measure l d x item ≡ (list_answer l or_else walk)
   unfolding measure answer_to15 stream_in walk_answer
   measure-is = or-else-assoc (list_answer l) _ _
-
-  -- f is the test of the list
-  module _ (f : Result (Unit {0}) Answer) (e : f ≡ test_by (list_answer l)) where
-    pub measure-refused : (a : Answer) → f ≡ Err a → Err a ≡ step_by (measure l d x item)
-    measure-refused a h = test-stops-step f (list_answer l) walk e a h ∙ ap step_by (sym measure-is)
-
-    module _ (u : Unit {0}) (h : f ≡ Ok u) where
-      walked : (r : Result ℕ Answer) → r ≡ step_by walk → r ≡ step_by (measure l d x item)
-      walked r w = test-then-step f (list_answer l) walk e u h r w ∙ ap step_by (sym measure-is)
-
-      pub measure-outside : (b : Result (Unit {0}) Answer) → b ≡ test_by (outside_answer d x) → (a : Answer) → b ≡ Err a → Err a ≡ step_by (measure l d x item)
-      measure-outside b q a k =
-          let n = test-refused b (outside_answer d x) q a k in
-          walked (Err a) (step-refuses a a refl n ∙ ap step_by (sym (rw (outside-fault d x b q a k) (walk-fault (tags_in l) d a (item_reading d item) n))))
-
-      pub measure-walked : (r : Result ℕ Answer) (xs ys : List ℕ) → StreamWalk l d x item r xs ys → r ≡ step_by (measure l d x item)
-      measure-walked r xs ys w = walked r w.answers
 
   -- m is what measuring gives; where it is a length, none of 10 to 15 is given
   module _ (m : Result ℕ Answer) (e : m ≡ step_by (measure l d x item)) (n : ℕ) (h : m ≡ Ok n) where

@@ -15,7 +15,6 @@ use Rattle.std.specs.Prelude.{Option, Result, Ok, Err}
 use Rattle.answer.specs.Step.{step_by, test_by}
 use Rattle.answer.proofs.Laws.OrElse.{or-else-first, or-else-second, or-else-refuses, both-accepted, passed}
 use Rattle.answer.proofs.Laws.Steps.{step-accepted, step-is, step-passes, step-refuses, test-accepted}
-use Rattle.answer.proofs.Laws.Chains.{test-stops-step}
 use Rattle.dataset.specs.declared.extent.Extent.{Extent}
 use Rattle.stream.specs.Walk.{stream_in, answer_to15, measure, answer_from16, answer, left_in, WrittenAs}
 use Rattle.stream.specs.Inner.Walk.{StreamWalk}
@@ -30,61 +29,23 @@ pub from16-accepted : (stream : List ℕ) (room : ℕ) → ltb room (length stre
 unfolding answer_from16
 from16-accepted stream room h = or-else-second _ _ (rw h)
 
-from16-refused : (stream : List ℕ) (room : ℕ) → ltb room (length stream) ≡ true → answer_from16 stream room ≡ refused 16 0
-unfolding answer_from16
-from16-refused stream room h = rw h (or-else-first (refused 16 0) _ (λ z. omega arith))
+-- ---- where `write` writes: m is what measuring gives, and `later` passes
+module _ (l d : List ℕ) (x : Extent) (item : Option Extent) (later : Result (Unit {0}) Answer) (out : List ℕ) (m : Result ℕ Answer) (e : m ≡ step_by (measure l d x item)) (n : ℕ) (h : m ≡ Ok n) where
+  abbrev all : List ℕ
+  all = stream_in l d x item
 
--- ---- the places of `write`
-module _ (l d : List ℕ) (x : Extent) (item : Option Extent) (later : Result (Unit {0}) Answer) (out : List ℕ) where
-  -- a refusal leaves the output alone
-  refuses : (f : Answer) → ((a : Answer) → later ≡ test_by a → Err f ≡ step_by (answer l d x item a (length out))) → WrittenAs l d x item later out (Err f) out
-  refuses f e = record { answers = e; output = refl; short = tt }
+  long : n ≡ length all
+  long = measured-long l d x item m e n h
 
-  -- m is what measuring gives
-  module _ (m : Result ℕ Answer) (e : m ≡ step_by (measure l d x item)) where
-    pub write-refused : (f : Answer) → m ≡ Err f → WrittenAs l d x item later out (Err f) out
-    unfolding measure answer
-    write-refused f h =
-        let s = step-is m (measure l d x item) e f h in
-        refuses f λ a q.
-        let y : measure l d x item ≡ answer l d x item a (length out) = or-else-refuses (answer_to15 l d x item) _ _ refl s.1 in
-        step-refuses f _ (s.0 ∙ y) (λ z. s.1 (ap (λ (b : Answer). b.number) y ∙ z))
-
-    module _ (n : ℕ) (h : m ≡ Ok n) where
-      abbrev all : List ℕ
-      all = stream_in l d x item
-
-      long : n ≡ length all
-      long = measured-long l d x item m e n h
-
-      -- what follows 15
-      goes_on : (a : Answer) → answer l d x item a (length out) ≡ (a or_else answer_from16 all (length out))
-      unfolding answer
-      goes_on a = or-else-second (answer_to15 l d x item) _ (first-accepts l d x item m e n h)
-
-      pub write-later : (f : Answer) → later ≡ Err f → WrittenAs l d x item later out (Err f) out
-      write-later f k = refuses f λ a q. test-stops-step later a (answer_from16 all (length out)) q f k ∙ ap step_by (sym (goes_on a))
-
-      module _ (u : Unit {0}) (k : later ≡ Ok u) where
-        at-16 : (a : Answer) → later ≡ test_by a → answer l d x item a (length out) ≡ answer_from16 all (length out)
-        at-16 a q = goes_on a ∙ or-else-second a _ (test-accepted later a q u k)
-
-        pub write-room : (f : Answer) → length out < n → f ≡ refused 16 0 → WrittenAs l d x item later out (Err f) out
-        write-room f j w =
-            refuses f λ a q.
-            let y = at-16 a q ∙ from16-refused all (length out) (lt-ltb (length out) (length all) (omega (arith, long))) in
-            step-refuses f _ (w ∙ sym y) (λ z. let v : ◌≡◌ {A = ℕ} 16 0 = ap (λ (b : Answer). b.number) (sym y) ∙ z in omega arith)
-
-        pub write-written : (r : Result ℕ Answer) (ys : List ℕ) → StreamWalk l d x item r out ys → n ≤ length out → WrittenAs l d x item later out r ys
-        unfolding left_in
-        write-written r ys w j =
-            let q : r ≡ Ok (length all) = w.answers ∙ ap step_by (sym (measure-walk l d x item m e n h)) ∙ sym e ∙ h ∙ ap (λ (i : ℕ). Ok i) long in
-            record {
-              answers = λ a p.
-                  q ∙ step-passes (length all) _ (at-16 a p ∙ from16-accepted all (length out) (le-ltb (length out) (length all) (omega (arith, long))));
-              output = w.output (length all) q ∙ sets-eq all out 0 (omega (arith, long)) ∙ rw (q, zero-add (length all));
-              short = w.short;
-            }
+  pub write-written : (u : Unit {0}) → later ≡ Ok u → (r : Result ℕ Answer) (ys : List ℕ) → StreamWalk l d x item r out ys → n ≤ length out → WrittenAs l d x item later out r ys
+  unfolding measure answer answer_from16 left_in ◌or_else◌ step_by test_by
+  write-written u k r ys w j =
+      let q : r ≡ Ok (length all) = w.answers ∙ ap step_by (sym (measure-walk l d x item m e n h)) ∙ sym e ∙ h ∙ ap (λ (i : ℕ). Ok i) long in
+      record {
+        answers = λ a p. grind (arith, first-accepts l d x item m e n h, long);
+        output = w.output (length all) q ∙ sets-eq all out 0 (omega (arith, long)) ∙ rw (q, zero-add (length all));
+        short = w.short;
+      }
 
 -- ---- what an accepted call says
 pub record Fits (stream out : List ℕ) (n : ℕ) : Type 0 where
