@@ -9,19 +9,18 @@ use lib.Dec.{ltb}
 use lib.ListN.{length}
 use Rattle.answer.specs.declared.Answer.{Answer}
 use Rattle.answer.specs.Answer.{accepted, refused, ◌or_else◌}
-use Rattle.std.specs.Prelude.{Option, Result, Ok, Err}
+use Rattle.std.specs.Prelude.{Option, Result, Ok}
 use Rattle.answer.specs.Step.{step_by, test_by}
 use Rattle.answer.proofs.Laws.OrElse.{or-else-second, or-else-assoc, both-accepted}
-use Rattle.answer.proofs.Laws.Steps.{step-accepted, step-refuses, test-accepted, test-refused}
+use Rattle.answer.proofs.Laws.Steps.{step-accepted, test-accepted}
 use Rattle.dataset.specs.Reading.{answer_of}
 use Rattle.dataset.specs.Place.{Lies}
-use Rattle.dataset.specs.Extent.{elements_in, outside_answer}
+use Rattle.dataset.specs.Extent.{elements_in}
 use Rattle.dataset.specs.declared.extent.Extent.{Extent}
-use Rattle.dataset.proofs.Laws.Extent.Outside.{outside-fault, read-lies}
+use Rattle.dataset.proofs.Laws.Extent.Outside.{read-lies}
 use Rattle.stream.specs.TagList.{tags_in, bad_size, ascending_answer, unbarred_answer, list_answer}
 use Rattle.stream.specs.Walk.{item_reading, stream_in, read_answer, answer_to15, measure}
-use Rattle.stream.specs.Inner.Walk.{walk_answer, StreamWalk}
-use Rattle.stream.proofs.Laws.Walk.StreamWalk.{walk-fault}
+use Rattle.stream.specs.Inner.Walk.{walk_answer}
 
 -- ---- the tag list
 first-accepted : (b : Bool) (index : ℕ) (rest : Answer) → (rest.number ≡ 0 → rest ≡ accepted 0) → (if b then refused 11 index else rest).number ≡ 0

@@ -1,20 +1,20 @@
 -- The writing, place by place of `write`, with the facts of the place as premises. Assumes nothing.
-use Prim.Native.Nat.{ℕ, ◌≤◌, ◌<◌}
+use Prim.Native.Nat.{ℕ, ◌≤◌}
 use native.Mathlib.Nat.{zero-add}
-use mathlib.Core.Path.{◌≡◌, refl, sym, ap, ◌∙◌}
-use mathlib.Core.Bool.{true, false}
+use mathlib.Core.Path.{◌≡◌, sym, ap, ◌∙◌}
+use mathlib.Core.Bool.{false}
 use mathlib.Core.List.{List}
 use native.Mathlib.Omega.{arith}
 use lib.Dec.{ltb}
 use lib.ListN.{length}
 use lib.Seq.{sets-eq}
-use borrow.Author.Tests.{lt-ltb, le-ltb, ltb-false}
+use borrow.Author.Tests.{ltb-false}
 use Rattle.answer.specs.declared.Answer.{Answer}
-use Rattle.answer.specs.Answer.{accepted, refused, ◌or_else◌}
-use Rattle.std.specs.Prelude.{Option, Result, Ok, Err}
+use Rattle.answer.specs.Answer.{accepted, ◌or_else◌}
+use Rattle.std.specs.Prelude.{Option, Result, Ok}
 use Rattle.answer.specs.Step.{step_by, test_by}
-use Rattle.answer.proofs.Laws.OrElse.{or-else-first, or-else-second, or-else-refuses, both-accepted, passed}
-use Rattle.answer.proofs.Laws.Steps.{step-accepted, step-is, step-passes, step-refuses, test-accepted}
+use Rattle.answer.proofs.Laws.OrElse.{or-else-second, both-accepted, passed}
+use Rattle.answer.proofs.Laws.Steps.{step-accepted}
 use Rattle.dataset.specs.declared.extent.Extent.{Extent}
 use Rattle.stream.specs.Walk.{stream_in, answer_to15, measure, answer_from16, answer, left_in, WrittenAs}
 use Rattle.stream.specs.Inner.Walk.{StreamWalk}
