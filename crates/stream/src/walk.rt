@@ -16,7 +16,8 @@ use answer::refusal::Refusal;
 use dataset::extent;
 use dataset::extent::Extent;
 
-// Writes the own elements of the signature item in x from `to` on, behind the listed ones.
+// Writes the own elements of the signature item in x from `to` on, behind the listed ones. `to` counts the stream's bytes, of which the output
+// may have no room: where the walk measures it is empty. So a part of the output can't stand for both.
 fn write_following(d: &[u8], x: Extent, out: &mut [u8], to: usize) -> Result<usize, Answer>
     requires { to ≤ length d.now }
     ensures { FollowingWalk d.now x to result out.old out.new }
