@@ -173,7 +173,8 @@ fn write_element(
 }
 
 // Writes what stands at x.from in an element's place, if it is kept, from `to` on; parameters as of header::header. An element that is
-// not kept is walked over all the same, for its faults and for UN inside it.
+// not kept is walked over all the same, for its faults and for UN inside it. Most elements are values that are not kept: these are passed
+// over with no call.
 #[cycle(write_element_write_elements_write_items_write_one)]
 pub(crate) fn write_one(
     d: &[u8],
@@ -190,8 +191,11 @@ pub(crate) fn write_one(
     if keep::keeps_header(keep, h) {
         return write_element(d, x, h, out, to);
     }
-    let one = write_element(d, x, h, &mut [], 0)?;
-    Ok(with_offset(one, to))
+    let ElementHeader::Value { tag, vr, end, .. } = h else {
+        let one = write_element(d, x, h, &mut [], 0)?;
+        return Ok(with_offset(one, to));
+    };
+    Ok(value_written(tag, vr, end, to))
 }
 
 // Writes the elements of an item that are not barred.

@@ -215,6 +215,13 @@ module _ (c : Keep) (d : List ℕ) where
       let z : to + 0 ≡ to = omega arith in
       record { answers = rw (w.answers, t, z) refl; output = rw t refl }
 
+-- a value that is not kept is passed over
+passed-walk : (c : Keep) (d : List ℕ) (at tag vr start end to : ℕ) (r : OneWritten) (xs : List ℕ) → keeps c tag ≡ false
+    → r ≡ one.Element tag (eqb vr UN) false end to
+    → Walk (one_walked (keeps c)) (one_stream (keeps c)) (read (element (value at tag vr (span start end))) end) d to (Ok r) xs xs
+unfolding one_walked one_stream Leaves holds_un
+passed-walk c d at tag vr start end to r xs t e = let z : to + 0 ≡ to = omega arith in record { answers = rw (t, e, z); output = rw t }
+
 module _ (d : List ℕ) (delimited : Bool) (left stop at least : ℕ) where
   -- what is read in an element's place, by what stands there
   one-is : (p : spec.ElementHeader) → p ≡ element_at d delimited left stop at least → one_at explicit d delimited left stop at least ≡ by_header_at d left stop at p
@@ -250,3 +257,11 @@ module _ (d : List ℕ) (delimited : Bool) (left stop at least : ℕ) where
       pub one_left : (to past : ℕ) (o r : OneWritten) (xs ys zs : List ℕ) → b ≡ false
           → ElementWalk d left stop at (element_case (Ok h)) past (Ok o) ys zs → r ≡ with_offset o to → OneWalk c d delimited left stop at least to (Ok r) xs xs
       one_left to past o r xs ys zs t w e = rw e (left_here to past (Ok o) xs ys zs t w)
+
+      pub one-passed : (to tag vr start end : ℕ) (z : OneWritten) (xs : List ℕ) → b ≡ false → h ≡ header.Value tag vr start end
+          → z ≡ one.Element tag (eqb vr UN) false end to → OneWalk c d delimited left stop at least to (Ok z) xs xs
+      unfolding by_header_at by_header
+      one-passed to tag vr start end z xs t q e =
+          let at-value : element_case (Ok h) ≡ spec.ElementHeader.value tag vr start end = ap (λ (e : ElementHeader). element_case (Ok e)) q in
+          rw (one-is (spec.ElementHeader.value tag vr start end) (sym at-value ∙ g))
+          (passed-walk c d at tag vr start end to z xs (sym (ap (keeps_header c) at-value) ∙ sym k ∙ t) e)

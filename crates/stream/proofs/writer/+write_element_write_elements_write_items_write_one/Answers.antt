@@ -119,5 +119,8 @@ write_one-returns-in_err-one t c =
     let e = c.in_err-one.ensures in
     rw (p.1, p.2) (search element.left-refused)
 
+pub write_one-returns-in_default : goal.write_one-returns-in_default
+write_one-returns-in_default t c = let g = c.in_ok-h.ensures in let e = c.in_ok-one.ensures in search element.one_left
+
 pub write_one-returns : goal.write_one-returns
-write_one-returns t c = let g = c.in_ok-h.ensures in let e = c.in_ok-one.ensures in search element.one_left
+write_one-returns t c = let g = c.in_ok-h.ensures in search element.one-passed
