@@ -60,6 +60,9 @@ holding-walk unknown stream d tag bytes (read a n) k make m h to past xs ys zs o
     }
 
 -- ---- write_element: h stands at `at`
+pub header-fits : (at to n : ℕ) → at + 8 ≤ n → to ≤ at + n → n * 1 < 2 ^ 63 → Fits w64 (to + 8)
+header-fits at to n h b m = record { fits = omega arith }
+
 module _ (d : List ℕ) (left stop at : ℕ) (h : ElementHeader) where
   by : (p : ElementHeader) → h ≡ p → by_header_at d left stop at (element_case (Ok h)) ≡ by_header (λ inner. items_at explicit d inner left) (fragments_at explicit d left stop) at (element_case (Ok p))
   unfolding by_header_at
@@ -109,9 +112,6 @@ module _ (d : List ℕ) (left stop at : ℕ) (h : ElementHeader) where
       pub sequence-header : at + 8 ≤ length d
       sequence-header = let k = sequence-facts in omega (arith, k.1.starts, k.2, k.3, k.5)
 
-      pub sequence-to-fits : (to : ℕ) → to ≤ at + length d → length d * 1 < 2 ^ 63 → Fits w64 (to + 8)
-      sequence-to-fits to b m = record { fits = omega (arith, sequence-header) }
-
       -- what `write_items` answers and leaves behind the header
       module _ (to : ℕ) (xs ys zs : List ℕ) (y : ys ≡ sets xs to (between d at (at + 8))) where
         holding-items : (o : Result Written Answer) → ItemsWalk d inside (to + 8) o ys zs → ElementWalk d left stop at (element_case (Ok h)) to (holding tag o) xs zs
@@ -142,9 +142,6 @@ module _ (d : List ℕ) (left stop at : ℕ) (h : ElementHeader) where
 
       pub parts-header : at + 8 ≤ length d
       parts-header = let k = parts-facts in omega (arith, k.1.starts, k.1.inside, k.2)
-
-      pub parts-to-fits : (to : ℕ) → to ≤ at + length d → length d * 1 < 2 ^ 63 → Fits w64 (to + 8)
-      parts-to-fits to b m = record { fits = omega (arith, parts-header) }
 
       -- what `write_fragments` answers and leaves behind the header
       module _ (to : ℕ) (xs ys zs : List ℕ) (y : ys ≡ sets xs to (between d at (at + 8))) where

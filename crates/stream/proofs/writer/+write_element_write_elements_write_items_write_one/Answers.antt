@@ -19,7 +19,7 @@ pub write_element-copy-requires-in-Sequence : goal.write_element-copy-requires-i
 write_element-copy-requires-in-Sequence t c = (search rules, search element.sequence-header)
 
 pub write_element-overflow_add-to-in-Sequence : goal.write_element-overflow_add-to-in-Sequence
-write_element-overflow_add-to-in-Sequence t c = search element.sequence-to-fits
+write_element-overflow_add-to-in-Sequence t c = search (element.header-fits, element.sequence-header)
 
 pub write_element-write_items-requires : goal.write_element-write_items-requires
 write_element-write_items-requires t c = search (element.sequence-level, element.sequence-room, element.sequence-lies, rules)
@@ -28,7 +28,7 @@ pub write_element-copy-requires-in-Fragments : goal.write_element-copy-requires-
 write_element-copy-requires-in-Fragments t c = (search rules, search element.parts-header)
 
 pub write_element-overflow_add-to-in-Fragments : goal.write_element-overflow_add-to-in-Fragments
-write_element-overflow_add-to-in-Fragments t c = search element.parts-to-fits
+write_element-overflow_add-to-in-Fragments t c = search (element.header-fits, element.parts-header)
 
 pub write_element-write_fragments-requires : goal.write_element-write_fragments-requires
 write_element-write_fragments-requires t c = search (element.parts-room, element.parts-lies, rules)
