@@ -1,8 +1,14 @@
 // Bytes into the output. What does not fit is not written.
-ghost use Rattle.std.specs.Prelude.{◌≡◌, [], ◌∷◌, ◌≤◌, length};
+ghost use Rattle.std.specs.Prelude.{◌≡◌, ◌≤◌, length};
 ghost use Rattle.std.proofs.lemmas.List.Edits.{sets};
 ghost use Rattle.slices.specs.Lists.{between};
 ghost use Rattle.stream.specs.Stream.{item_tag_bytes, sequence_delimiter_bytes};
+
+// An item's tag, (FFFE,E000), as it is coded.
+const ITEM_TAG: [u8; 4] = [0xFE, 0xFF, 0x00, 0xE0];
+
+// A sequence delimiter's tag, (FFFE,E0DD), as it is coded.
+const SEQUENCE_DELIMITER: [u8; 4] = [0xFE, 0xFF, 0xDD, 0xE0];
 
 // Copies the bytes of d from `from` up to `end` to the output, from `to` on.
 pub(crate) fn copy(d: &[u8], from: usize, end: usize, out: &mut [u8], to: usize)
@@ -12,24 +18,16 @@ pub(crate) fn copy(d: &[u8], from: usize, end: usize, out: &mut [u8], to: usize)
     slices::copy(&d[from..end], out, to);
 }
 
-// Puts a tag of group FFFE by its third byte.
-fn put_tag(out: &mut [u8], to: usize, third: u8)
-    ensures { out.new ≡ sets out.old to (0xFE ∷ 0xFF ∷ third ∷ 0xE0 ∷ []) }
-{
-    let bytes = [0xFE, 0xFF, third, 0xE0];
-    slices::copy(&bytes, out, to);
-}
-
 // Puts an item's tag.
 pub(crate) fn put_item_tag(out: &mut [u8], to: usize)
     ensures { out.new ≡ sets out.old to item_tag_bytes }
 {
-    put_tag(out, to, 0x00);
+    slices::copy(&ITEM_TAG, out, to);
 }
 
 // Puts the tag of a sequence delimiter.
 pub(crate) fn put_sequence_delimiter(out: &mut [u8], to: usize)
     ensures { out.new ≡ sets out.old to sequence_delimiter_bytes }
 {
-    put_tag(out, to, 0xDD);
+    slices::copy(&SEQUENCE_DELIMITER, out, to);
 }
