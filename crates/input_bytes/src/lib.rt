@@ -12,6 +12,7 @@ pub fn read_full<R: Read>(reader: &mut R, room: &mut [u8]) -> io::Result<usize>
     ensures bytes { IfOk result (λ n. Consumes (R.remaining reader.old) (R.remaining reader.new) (take n room.new)) }
     ensures whole { IfOk result (λ n. n < length room.new → IsAtEnd (R.remaining reader.new)) }
 {
+    // The library's `read_exact` gives no count where the reader ends before the room is full, and `read_to_end` fills a Vec.
     let mut filled = 0;
     while filled < room.len() {
         let n = reader.read(&mut room[filled..])?;
