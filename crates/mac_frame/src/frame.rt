@@ -10,6 +10,7 @@ use mac::list_mode;
 const INPUT_LIMIT: usize = 65536;
 
 // The big-endian length at an index.
+#[tactic(auto, unfolding(crate::specs::Frame::big32))]
 fn big32(s: &[u8], i: usize) -> u32
     requires { i + 4 ≤ length s.now }
     ensures { result ≡ Spec.big32 s.now i }
