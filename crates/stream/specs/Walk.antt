@@ -2,7 +2,7 @@
 -- extent of the item. Its stream, the numbers 10 to 16 (RULES, 9.4, 9.5), and what is left in the output.
 -- Assumes nothing.
 use Rattle.std.specs.Prelude.{ℕ, ◌+◌, ◌≤◌, ◌≡◌, List, ◌++◌, Option, Some, None, Result, Ok, Err, eqb, ltb, length, drop, if◌then◌else◌}
-use Rattle.std.specs.Result.{IfOk}
+use Rattle.std.specs.Result.{IfOk, IsErr}
 use Rattle.answer.specs.declared.Answer.{Answer}
 use Rattle.answer.specs.Answer.{accepted, refused, ◌or_else◌}
 use Rattle.answer.specs.Step.{step_by, test_by}
@@ -66,5 +66,6 @@ left_by (Err a) stream out = out
 
 pub record WrittenAs (list d : List ℕ) (x : Extent) (item : Option Extent) (later : Result (Unit {0}) Answer) (out : List ℕ) (r : Result ℕ Answer) (after : List ℕ) : Type 0 where
   pub answers : (a : Answer) → later ≡ test_by a → r ≡ step_by (answer list d x item a (length out))
+  pub refuses : IsErr later → IsErr r
   pub output : after ≡ left_by r (stream_in list d x item) out
   pub short : IfOk r (λ n. n ≤ length d + length d)

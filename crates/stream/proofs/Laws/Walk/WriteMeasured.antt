@@ -2,7 +2,7 @@
 use Prim.Native.Nat.{ℕ, ◌≤◌}
 use native.Mathlib.Nat.{zero-add}
 use mathlib.Core.Path.{◌≡◌, sym, ap, ◌∙◌}
-use mathlib.Core.Bool.{false}
+use mathlib.Core.Bool.{false, false≢true}
 use mathlib.Core.List.{List}
 use native.Mathlib.Omega.{arith}
 use lib.Dec.{ltb}
@@ -43,6 +43,7 @@ module _ (l d : List ℕ) (x : Extent) (item : Option Extent) (later : Result (U
       let q : r ≡ Ok (length all) = w.answers ∙ ap step_by (sym (measure-walk l d x item m e n h)) ∙ sym e ∙ h ∙ ap (λ (i : ℕ). Ok i) long in
       record {
         answers = λ a p. grind (arith, first-accepts l d x item m e n h, long);
+        refuses = λ z. absurd (false≢true (rw k at z));
         output = w.output (length all) q ∙ sets-eq all out 0 (omega (arith, long)) ∙ rw (q, zero-add (length all));
         short = w.short;
       }

@@ -12,17 +12,17 @@ pub returns-in_err-length : goal.returns-in_err-length
 unfolding measure answer ◌or_else◌ step_by test_by
 returns-in_err-length c =
     let p = err_from_is_err_and c.from_residual.result c.from_residual.ensures.1 in
-    rw (p.1, p.2) record { answers = λ a q. grind arith; output = refl; short = tt }
+    rw (p.1, p.2) record { answers = λ a q. grind arith; refuses = λ z. refl; output = refl; short = tt }
 
 pub returns-in_err-later : goal.returns-in_err-later
 unfolding measure answer ◌or_else◌ step_by test_by
 returns-in_err-later c =
     let p = err_from_is_err_and c.from_residual-in_err-later.result c.from_residual-in_err-later.ensures.1 in
-    rw (p.1, p.2) record { answers = λ a q. grind arith; output = refl; short = tt }
+    rw (p.1, p.2) record { answers = λ a q. grind arith; refuses = λ z. refl; output = refl; short = tt }
 
 pub returns-then-out-length : goal.returns-then-out-length
 unfolding measure answer answer_from16 ◌or_else◌ step_by test_by
-returns-then-out-length c = record { answers = λ a q. grind arith; output = refl; short = tt }
+returns-then-out-length c = record { answers = λ a q. grind arith; refuses = λ z. refl; output = refl; short = tt }
 
 pub write_stream-requires : goal.write_stream-requires
 write_stream-requires c = (search (measured.measured-ascends, c.in_ok-length.was), search (measured.measured-lies, c.in_ok-length.was))
