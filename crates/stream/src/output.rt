@@ -1,4 +1,5 @@
-// Bytes into the output. What does not fit is not written.
+// Bytes into the output, at an offset of the stream. What does not fit is not written; where a walk measures, the output is empty. So the offset
+// stands beside the output: a part of the output can't stand for both.
 ghost use Rattle.std.specs.Prelude.{◌≡◌, ◌≤◌, length};
 ghost use Rattle.std.proofs.lemmas.List.Edits.{sets};
 ghost use Rattle.slices.specs.Lists.{between};
