@@ -39,23 +39,31 @@ pub fn print_one<W: Write>(writer: &mut W, d: &[u8], left: u32) -> io::Result<()
     match reading::read_one(d, x, 0) {
         Err(answer) => writeln!(writer, " {} {}", answer.number, answer.position),
         Ok(OneOutcome::End(_)) => writeln!(writer, " end"),
-        Ok(OneOutcome::Element {
-            tag,
-            vr,
-            start,
-            end,
-            next,
-        }) => print_element(writer, tag, vr, start, end, next),
+        Ok(
+            OneOutcome::Element {
+                tag,
+                vr,
+                start,
+                end,
+                next,
+            },
+        ) => print_element(writer, tag, vr, start, end, next),
     }
 }
 
 pub fn print_lookup<W: Write>(writer: &mut W, d: &[u8], tag: u32) -> io::Result<()> {
     let found = lookup::lookup(d, tag);
     let Answer {
-        number, position, ..
+        number,
+        position,
+        ..
     } = found.answer;
     let yes_or_no = if found.present { "yes" } else { "no" };
-    write!(writer, " {number} {position} {yes_or_no} {}", found.part.len())?;
+    write!(
+        writer,
+        " {number} {position} {yes_or_no} {}",
+        found.part.len()
+    )?;
     print::hex(writer, found.part)?;
     writeln!(writer)
 }
