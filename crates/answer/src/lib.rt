@@ -6,7 +6,8 @@ ghost use Rattle.answer.specs.Step.{answer_by};
 
 pub mod refusal;
 
-// The number, the position it speaks of, and the length of the stream.
+// The number, the position it speaks of, and the length of the stream: RULES 9.1 gives an answer these three, and the theorems and C take
+// the number as it stands.
 #[derive(Clone, Copy, Debug, PartialEq, Eq)]
 pub struct Answer {
     pub number: u8,

@@ -67,7 +67,8 @@ pub fn print_stream<W: Write>(
     writeln!(writer)
 }
 
-// Checks an expected digest with a work buffer, and prints the answer, and what the check says.
+// Checks an expected digest with a work buffer, and prints the answer, and what the check says. (Answer and Verdict are other crates', so that
+// their words cannot be a Display of this one.)
 pub fn print_check<W: Write>(
     writer: &mut W,
     mode: Mode,

@@ -237,7 +237,8 @@ fn item_by(in_sequence: bool, x: Extent, start: usize, len: usize) -> Result<Ite
 }
 
 // What stands at x.from in the place of an item of a sequence (`in_sequence`) or of a fragment, where the rest of these lies in x; or a
-// refusal. A stop past the data, or a start past stop, is 2.
+// refusal. A stop past the data, or a start past stop, is 2. (Its first checks are those of `header`. Both stand whole, beside their
+// definitions: split off, the checks would be read out of their written order.)
 pub fn item_header(d: &[u8], in_sequence: bool, x: Extent) -> Result<ItemHeader, Answer>
     ensures { item_case result ≡ item_at d.now in_sequence x.delimited x.stop x.from }
 {

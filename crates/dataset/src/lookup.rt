@@ -1,5 +1,5 @@
 // The lookup of a tag at the top level of a data set.
-ghost use Rattle.std.specs.Prelude.{◌≡◌, ◌≤◌, eqb};
+ghost use Rattle.std.specs.Prelude.{◌≡◌, eqb};
 ghost use Rattle.dataset.specs.Lookup.{absent, present, found, Lookup};
 ghost use Rattle.dataset.specs.Inner.Outcomes.{or_next};
 
@@ -40,20 +40,18 @@ fn absent_at_end(answer: Answer, size: usize) -> Found
 
 // The value from start to end.
 fn present_at(start: usize, end: usize) -> Found
-    requires { start ≤ end }
     ensures { result ≡ present start end }
 {
     Found {
         answer: Answer::accepted(0),
         present: true,
         start,
-        length: end - start,
+        length: end.saturating_sub(start),
     }
 }
 
 // What is found after one element more, of the tag `here`, whose value lies from start to end.
 fn or_next(before: Found, wanted: u32, here: u32, start: usize, end: usize) -> Found
-    requires { start ≤ end }
     ensures { result ≡ or_next before (eqb here wanted) (present start end) }
 {
     if before.present {

@@ -21,7 +21,7 @@ fn running_of(words: [u32; 8], waiting: [u8; 64], counts: [u64; 2]) -> Running
     }
 }
 
-// The SHA-256 digest of a whole message.
+// The SHA-256 digest of a whole message. (`Hashed` has its answer beside the digest, so that the number is asked.)
 #[unsafe(no_mangle)]
 pub extern "C" fn eddyplume_sha256(message: &[u8], digest: &mut [u8; 32], answer: &mut [u64; 3])
     ensures { HashedTo (hashing sha256 message.now) digest.old digest.new answer.new }
@@ -76,7 +76,7 @@ pub extern "C" fn eddyplume_digest_feed(
     *answer = c_values::answer_words(a);
 }
 
-// The digest of all bytes so far; a refusal writes no digest byte.
+// The digest of all bytes so far; a refusal writes no digest byte. (`Finished` has its answer beside the digest, so that the number is asked.)
 #[unsafe(no_mangle)]
 pub extern "C" fn eddyplume_digest_finish(
     words: &[u32; 8],

@@ -5,7 +5,8 @@ use case_calls::{frame_kind, reading_kinds};
 use std::io;
 use std::io::Write;
 
-// A room for the bytes of a case's fields, a little over the size of a data set, and of a list and a digest with it.
+// A room for the bytes of a case's fields, a little over the size of a data set, and of a list and a digest with it. An array: what a case may
+// have is what fits, and a Vec would have this limit beside it.
 fn field_room() -> [u8; 1056960] {
     [0u8; 1056960]
 }

@@ -15,7 +15,7 @@ use std::io::Write;
 
 const MOST_ROOM: usize = 1048640;
 
-// A room for the output, a little over the size of a data set.
+// A room for the output, a little over the size of a data set; an array, as that of the fields.
 fn output_room() -> [u8; MOST_ROOM] {
     [0u8; MOST_ROOM]
 }

@@ -48,7 +48,8 @@ fn output() -> [u8; 65536] {
     [0u8; 65536]
 }
 
-// Runs list mode on the frame whose list ends at `end`, and puts what is to be printed.
+// Runs list mode on the frame whose list ends at `end`, and puts what is to be printed: the answer, which is asked for its number since it is
+// printed either way, and the stream.
 fn report(input: &[u8], end: usize, text: &mut Text)
     requires { Holds input.now end × text.old.size ≡ 0 }
     ensures { Puts text.old (Spec.report (Spec.frame_call input.now end)) text.new }

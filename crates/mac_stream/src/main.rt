@@ -4,7 +4,7 @@ use input_bytes::read_full;
 use mac_frame::frame;
 use std::io;
 
-// One byte more than a frame may have, so that a longer input is seen; and the array that print_frame wants for the text.
+// Arrays of fixed size: one byte more than a frame may have, so that a longer input is seen; and the array that print_frame wants for the text.
 fn run(
     rt: &(impl Input + Print),
     input: &mut [u8; 65537],

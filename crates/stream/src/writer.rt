@@ -1,5 +1,5 @@
 // The walk over a data set that reads it, finds UN, measures the stream and writes it, all at once. What does not fit into the output is
-// not written: with an empty output the walk measures.
+// not written: with an empty output the walk measures. The readers of `dataset` go the same way and know no stream, so that the walks are two.
 ghost use Rattle.std.specs.Prelude.{◌≡◌, false, ◌++◌, ◌+◌, ◌<◌, ◌≤◌, eqb, length};
 ghost use Rattle.std.proofs.lemmas.List.Edits.{sets};
 ghost use Rattle.slices.specs.Lists.{between};

@@ -42,8 +42,9 @@ pub record FindLoop (d : List ℕ) (tag at least : ℕ) (f : Found) : Type 0 whe
       ≡ with_before (length d) tag f (elements_at explicit d false levels (length d) at least)
   pub kept : or_next f true (nothing (length d)) ≡ f
 
-pub present-is : (a : Answer) (start end : ℕ) → a ≡ answer.accepted 0 → ◌≡◌ {A = Found} (record { answer = a; present = true; start = start; length = end - start }) (present start end)
-present-is a start end e = rw e
+pub present-is : (a : Answer) (start end n : ℕ) → a ≡ answer.accepted 0 → n ≡ end - start
+    → ◌≡◌ {A = Found} (record { answer = a; present = true; start = start; length = n }) (present start end)
+present-is a start end n e q = rw (e, q)
 
 start-same : (size tag : ℕ) (p : Reading Elements) → found_in size tag p ≡ with_before size tag (nothing size) p
 unfolding found_in with_before or_next
@@ -122,13 +123,6 @@ module _ (d : List ℕ) (x : Extent) (w : x ≡ whole_of (length d)) (tag at lea
   module _ (here vr start end next : ℕ) (q : r ≡ Ok (one.Element here vr start end next)) where
     it : IsElement (one_at explicit d false levels (length d) at least) here vr start end next
     it = is-element (one_at explicit d false levels (length d) at least) here vr start end next (answered d false levels (length d) at least r e i.inside ∙ q)
-
-    pub find-order : start ≤ end
-    find-order =
-        let h : ElementIn d levels (length d) least at it.what next = holds_read (OneIs d false levels (length d) least at)
-        (one_at explicit d false levels (length d) at least) (element it.what) next (one-read d levels (length d) at (omega arith) false least) it.is in
-        let s = span-inside it.what d levels at next h.tree in
-        omega (arith, s.order, it.starts, it.ends)
 
     pub find-less : length d - next < length d - at
     find-less = let k = one-past d false levels (length d) at least r e i.inside here vr start end next q in omega (arith, k)

@@ -15,9 +15,6 @@ returns-in-Err-read_one c = search (steps.find-refused, size-passed)
 pub returns-in-Ok-End : goal.returns-in-Ok-End
 returns-in-Ok-End c = let q = value-is _ _ _ c.in-Ok-End.is c.in-Ok-End.field-0-is in search (steps.find-end, size-passed)
 
-pub or_next-before-requires : goal.or_next-before-requires
-or_next-before-requires c = let q = value-is _ _ _ c.in-Ok-Element.is c.in-Ok-Element.field-0-is in search steps.find-order
-
 pub loop-fault-smaller : goal.loop-fault-smaller
 loop-fault-smaller c = let q = value-is _ _ _ c.in-Ok-Element.is c.in-Ok-Element.field-0-is in search steps.find-less
 
