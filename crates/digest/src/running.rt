@@ -97,7 +97,7 @@ impl Running {
         }
         let (first, after) = bytes.split_at(room);
         let words = sha256::after_blocks(self.words, &filled(waiting, first));
-        let rest = &after[after.len() - after.len() % 64..];
+        let (_, rest) = after.as_chunks::<64>();
         Self {
             words: sha256::after_blocks(words, after),
             waiting: filled(rest, b""),

@@ -35,8 +35,8 @@ pub(crate) struct Working {
     pub h: u32,
 }
 
-fn word(block: &[u8], i: usize) -> u32
-    requires { (i < 16) × (length block.now ≡ 64) }
+fn word(block: &[u8; 64], i: usize) -> u32
+    requires { i < 16 }
     ensures { result ≡ Spec.word_of block.now i }
 {
     let at = 4 * i;
@@ -44,8 +44,7 @@ fn word(block: &[u8], i: usize) -> u32
 }
 
 // The sixteen words of a block, and room for those after them.
-fn loaded(block: &[u8]) -> [u32; 64]
-    requires { length block.now ≡ 64 }
+fn loaded(block: &[u8; 64]) -> [u32; 64]
     ensures { take 16 result ≡ tabulate (Spec.word_of block.now) 16 }
 {
     let mut w = [0u32; 64];
@@ -68,8 +67,7 @@ fn next_word(w: &[u32; 64], t: usize) -> u32
 }
 
 // The 64 words of the message schedule, two in a turn: neither needs the other, so that they are computed side by side.
-fn schedule(block: &[u8]) -> [u32; 64]
-    requires { length block.now ≡ 64 }
+fn schedule(block: &[u8; 64]) -> [u32; 64]
     ensures { result ≡ Spec.schedule block.now }
 {
     let mut w = loaded(block);
@@ -155,8 +153,8 @@ fn added(v: Working, h: [u32; 8]) -> [u32; 8]
 }
 
 // The hash value after one block.
-fn compressed(h: [u32; 8], k: &[u32; 64], block: &[u8]) -> [u32; 8]
-    requires { (k.now ≡ Spec.constants) × (length block.now ≡ 64) }
+fn compressed(h: [u32; 8], k: &[u32; 64], block: &[u8; 64]) -> [u32; 8]
+    requires { k.now ≡ Spec.constants }
     ensures { result ≡ Spec.compressed h block.now }
 {
     let w = schedule(block);
@@ -170,7 +168,8 @@ pub(crate) fn after_blocks(start: [u32; 8], bytes: &[u8]) -> [u32; 8]
 {
     let k = &K;
     let mut h = start;
-    for block in bytes.chunks_exact(64) {
+    let (blocks, _) = bytes.as_chunks::<64>();
+    for block in blocks {
         let next = compressed(h, k, block);
         h = next;
     }

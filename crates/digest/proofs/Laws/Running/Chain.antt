@@ -1,9 +1,9 @@
 -- Feeding in parts, for any block function: the words after the blocks and the bytes left do not depend on how the message is cut.
 -- Assumes nothing.
-use Rattle.std.proofs.Common.{◌≡◌, ℕ, zero, suc, ◌+◌, ◌-◌, ◌*◌, ◌/◌, ◌%◌, ◌<◌, ◌≤◌, List, [], ◌++◌, length, take, drop, sym, refl, ap, ◌∙◌, ap₂, add-zero, add-one, add-suc, arith, length-append, length-drop, drop_of_length-le, drop-drop}
+use Rattle.std.proofs.Common.{◌≡◌, ℕ, zero, suc, ◌+◌, ◌*◌, ◌/◌, ◌%◌, ◌<◌, ◌≤◌, List, [], ◌++◌, get_or, length, take, drop, sym, refl, ap, ◌∙◌, ap₂, add-zero, add-one, add-suc, arith, length-append, length-drop, drop_of_length-le, drop-drop}
 use lib.Seq.{take-append-le, drop-append-le}
-use Rattle.std.proofs.lemmas.List.{take_at, drop_at}
-use Rattle.digest.specs.Message.{chain, after_blocks, rest}
+use Rattle.std.specs.Simd.{first_chunks}
+use Rattle.digest.specs.Message.{block_of, chain, after_blocks, rest}
 
 module _ (f : List ℕ → List ℕ → List ℕ) where
   -- n blocks depend on the first 64 * n bytes alone
@@ -22,37 +22,19 @@ module _ (f : List ℕ → List ℕ → List ℕ) where
       let e : 64 * (n + k) ≡ 64 * n + 64 * k = omega arith in
       rw add-suc (ap₂ f (chain-add n k h m) (ap (λ (j : ℕ). take 64 (drop j m)) e ∙ ap (take 64) (sym (drop-drop (64 * k) (64 * n) m))))
 
--- ---- the loop over the blocks of m: n of them were taken, and `left` is what follows them
-pub record SoFar (f : List ℕ → List ℕ → List ℕ) (h m g left : List ℕ) (n : ℕ) : Type 0 where
-  pub inside : 64 * n ≤ length m
-  pub follows : left ≡ drop (64 * n) m
-  pub words : g ≡ chain f n h m
+-- ---- the loop over the blocks of m, the first k chunks of 64 bytes
+block-at : (k : ℕ) (m : List ℕ) (i : ℕ) (d : List ℕ) → i < k → get_or (first_chunks 64 k m) i d ≡ block_of m i
+block-at zero m i d h = absurd (omega arith)
+block-at (suc k) m zero d h = refl
+block-at (suc k) m (suc i) d h =
+    block-at k (drop 64 m) i d (omega arith) ∙ ap (take 64) (drop-drop (64 * i) 64 m) ∙ ap (λ (j : ℕ). take 64 (drop j m)) (omega arith)
 
-pub so-far-none : (f : List ℕ → List ℕ → List ℕ) (h m left : List ℕ) → left ≡ m → SoFar f h m h left 0
+-- the words after one block more, from the words g after n of them
+pub chain-next : (f : List ℕ → List ℕ → List ℕ) (h m g g' d : List ℕ) (bs : List (List ℕ)) (n : ℕ) → bs ≡ first_chunks 64 (length m / 64) m
+    → length bs ≡ length m / 64 → n < length bs → g ≡ chain f n h m → g' ≡ f g (get_or bs n d) → g' ≡ chain f (n + 1) h m
 unfolding chain
-so-far-none f h m left e = record { inside = omega arith; follows = e; words = refl }
-
-module _ (f : List ℕ → List ℕ → List ℕ) (h m g left : List ℕ) (n : ℕ) (s : SoFar f h m g left n) where
-  pub so-far-next : (x after g' : List ℕ) (k : ℕ) → k ≡ n + 1 → left ≡ x ++ after → length x ≡ 64 → g' ≡ f g x → SoFar f h m g' after k
-  unfolding chain
-  so-far-next x after g' k e p l q =
-      let d : drop (64 * n) m ≡ x ++ after = sym s.follows ∙ p in
-      let long : length m - 64 * n ≡ 64 + length after = sym (length-drop (64 * n) m) ∙ ap length d ∙ length-append x after ∙ omega arith in
-      let b : x ≡ take 64 (drop (64 * n) m) = sym (ap (take 64) d ∙ take_at x after 64 l) in
-      let r : after ≡ drop (64 * n + 64) m = sym (sym (drop-drop 64 (64 * n) m) ∙ ap (drop 64) d ∙ drop_at x after 64 l) in
-      let t : 64 * n + 64 ≡ 64 * k = omega arith in
-      record {
-        inside = omega (arith, s.inside);
-        follows = r ∙ ap (λ (j : ℕ). drop j m) t;
-        words = rw (e, add-one) (q ∙ ap₂ f s.words b);
-      }
-
-  pub so-far-all : length left < 64 → g ≡ after_blocks f h m
-  unfolding after_blocks
-  so-far-all l =
-      let d : length left ≡ length m - 64 * n = ap length s.follows ∙ length-drop (64 * n) m in
-      let e : n ≡ length m / 64 = omega (arith, s.inside) in
-      s.words ∙ ap (λ (k : ℕ). chain f k h m) e
+chain-next f h m g g' d bs n b l i e q =
+    rw add-one (q ∙ ap₂ f e (ap (λ (x : List (List ℕ)). get_or x n d) b ∙ block-at (length m / 64) m n d (omega arith)))
 
 -- the blocks of a ++ b are those of a, and those of what a left with b behind it
 blocks_more : (a b : List ℕ) → length (a ++ b) / 64 ≡ length a / 64 + length (rest a ++ b) / 64

@@ -1,6 +1,6 @@
 -- The code's test is `accepts`, and what the code does with the array of waiting bytes is what `fed` says, for any algorithm.
 -- Assumes nothing.
-use Rattle.std.proofs.Common.{◌≡◌, ℕ, ◌+◌, ◌-◌, ◌*◌, ◌/◌, ◌%◌, ◌<◌, ◌≤◌, Bool, true, false, ◌&&◌, List, [], ◌++◌, length, take, drop, replicate, sym, ap, ap₂, ◌∙◌, append_assoc, append-nil, arith, length-append, length-drop, take-append-drop, length-take-le, take_all, eqb-true, le-leb, leb-true}
+use Rattle.std.proofs.Common.{◌≡◌, ℕ, ◌+◌, ◌-◌, ◌*◌, ◌/◌, ◌<◌, ◌≤◌, Bool, true, false, ◌&&◌, List, [], ◌++◌, length, take, drop, replicate, sym, ap, ap₂, ◌∙◌, append_assoc, append-nil, arith, length-append, length-drop, take-append-drop, length-take-le, eqb-true, le-leb, leb-true}
 use mathlib.Core.Bool.{and-true, and-false, and-eq-true_iff}
 use borrow.Author.Tests.{lt-leb}
 use lib.Seq.{take-append_seam, drop-append_seam}
@@ -63,11 +63,9 @@ waiting-filled s l h z =
     ∙ ap (λ (x : List ℕ). w ++ x) (zero-list (drop s.count s.waiting) z ∙ ap (λ (j : ℕ). replicate j 0) k) ∙ sym (ap zero_filled (append-nil w))
 
 -- what is past the whole blocks
-pub rest-from : (m : List ℕ) (from : ℕ) → from ≡ length m - length m % 64 → take (length m - from) (drop from m) ≡ rest m
+pub rest-from : (m p : List ℕ) → p ≡ drop (length m / 64 * 64) m → p ≡ rest m
 unfolding rest
-rest-from m from e =
-    let f : from ≡ 64 * (length m / 64) = omega arith in
-    take_all (length m - from) (drop from m) (simp length-drop (omega arith)) ∙ ap (λ (k : ℕ). drop k m) f
+rest-from m p e = e ∙ ap (λ (k : ℕ). drop k m) (omega arith)
 
 module _ (a : Algorithm) (s : Running) (m : List ℕ) (l : length s.waiting ≡ 64) where
   -- fewer bytes than there is room: they wait too

@@ -14,4 +14,4 @@ returns c =
     let after = c.split_at.result.1.now in
     let full = c.filled-2.ensures ∙ ap (λ (x : List ℕ). zero_filled (waiting_bytes self ++ x)) c.split_at.ensures.front in
     fed-many sha256 self c.args.bytes.now (search rules) (64 - self.count) _ _ _ after _ _ _ (omega (arith, c.requires.counted)) (omega arith) refl full
-    c.after_blocks-words.ensures c.split_at.ensures.back c.after_blocks.ensures (rest-from after _ refl) c.filled-3.ensures refl
+    c.after_blocks-words.ensures c.split_at.ensures.back c.after_blocks.ensures (rest-from after _ c.as_chunks.ensures.back) c.filled-3.ensures refl
