@@ -5,33 +5,33 @@ ghost use Rattle.answer.specs.Refusal.{number_of};
 
 use crate::Answer;
 
-// The refusals, in the order of their numbers. 17 is not used.
+// The refusals, by their numbers. 17 is not used.
 #[derive(Clone, Copy, Debug, PartialEq, Eq)]
 pub enum Refusal {
-    TooLarge,
-    TooFewBytes,
-    MisplacedTag,
-    TagOrder,
-    UnknownVr,
-    ReservedBytes,
-    BadLength,
-    TooDeep,
-    DigestLength,
-    ListSize,
-    ListOrder,
-    BarredTag,
-    MissingElement,
-    IsUn,
-    HoldsUn,
-    OutputTooShort,
-    NoSignature,
-    NoMacId,
-    NoParameters,
-    TransferSyntax,
-    UnknownAlgorithm,
-    NoTagList,
-    BadFrame,
-    BadRunningDigest,
+    TooLarge = 1,
+    TooFewBytes = 2,
+    MisplacedTag = 3,
+    TagOrder = 4,
+    UnknownVr = 5,
+    ReservedBytes = 6,
+    BadLength = 7,
+    TooDeep = 8,
+    DigestLength = 9,
+    ListSize = 10,
+    ListOrder = 11,
+    BarredTag = 12,
+    MissingElement = 13,
+    IsUn = 14,
+    HoldsUn = 15,
+    OutputTooShort = 16,
+    NoSignature = 18,
+    NoMacId = 19,
+    NoParameters = 20,
+    TransferSyntax = 21,
+    UnknownAlgorithm = 22,
+    NoTagList = 23,
+    BadFrame = 24,
+    BadRunningDigest = 25,
 }
 
 impl Refusal {
@@ -39,32 +39,7 @@ impl Refusal {
     pub fn number(self) -> u8
         ensures { result ≡ number_of self }
     {
-        match self {
-            Refusal::TooLarge => 1,
-            Refusal::TooFewBytes => 2,
-            Refusal::MisplacedTag => 3,
-            Refusal::TagOrder => 4,
-            Refusal::UnknownVr => 5,
-            Refusal::ReservedBytes => 6,
-            Refusal::BadLength => 7,
-            Refusal::TooDeep => 8,
-            Refusal::DigestLength => 9,
-            Refusal::ListSize => 10,
-            Refusal::ListOrder => 11,
-            Refusal::BarredTag => 12,
-            Refusal::MissingElement => 13,
-            Refusal::IsUn => 14,
-            Refusal::HoldsUn => 15,
-            Refusal::OutputTooShort => 16,
-            Refusal::NoSignature => 18,
-            Refusal::NoMacId => 19,
-            Refusal::NoParameters => 20,
-            Refusal::TransferSyntax => 21,
-            Refusal::UnknownAlgorithm => 22,
-            Refusal::NoTagList => 23,
-            Refusal::BadFrame => 24,
-            Refusal::BadRunningDigest => 25,
-        }
+        self as u8
     }
 
     // The answer of a refusal, with the position that goes with it.

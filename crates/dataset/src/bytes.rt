@@ -7,7 +7,7 @@ pub(crate) fn number16(d: &[u8], i: usize) -> u32
     requires { i + 2 ≤ length d.now }
     ensures { (result ≡ num16 d.now i) × (result < 65536) }
 {
-    d[i] as u32 + 256 * d[i + 1] as u32
+    u16::from_le_bytes([d[i], d[i + 1]]) as u32
 }
 
 // The four-byte number at i.
@@ -15,7 +15,7 @@ pub(crate) fn number32(d: &[u8], i: usize) -> u32
     requires { i + 4 ≤ length d.now }
     ensures { result ≡ num32 d.now i }
 {
-    number16(d, i) + 65536 * number16(d, i + 2)
+    u32::from_le_bytes([d[i], d[i + 1], d[i + 2], d[i + 3]])
 }
 
 // The tag at i.
@@ -41,5 +41,5 @@ pub(crate) fn vr_at(d: &[u8], i: usize) -> u16
     requires { i + 6 ≤ length d.now }
     ensures { result ≡ vr_at d.now i }
 {
-    d[i + 4] as u16 * 256 + d[i + 5] as u16
+    u16::from_be_bytes([d[i + 4], d[i + 5]])
 }

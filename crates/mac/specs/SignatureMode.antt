@@ -1,7 +1,7 @@
 -- Signature mode, a term of docs/RULES.md, 1.1: "for one of the signatures in the data set". Its stream (8.4), the order of the
 -- numbers (9.5), and the call.
 -- Assumes nothing.
-use Rattle.std.specs.Prelude as prelude
+use Rattle.std.specs.Prelude as code
 use Rattle.std.specs.Prelude.{ℕ, List, [], length}
 use Rattle.std.proofs.Math.Option.{Option, some}
 use Rattle.std.proofs.Math.Option as Opt
@@ -28,19 +28,19 @@ selection_answer (refusal number) = refused number 0
 selection_answer (selected list algorithm es item) = list_answer list or_else tags_answer 0 (tags_in list) es
 
 -- what is selected in a data set: "18 to 23" (9.5)
-abbrev pub selection_in : (uid : List ℕ) (which : prelude.Option ℕ) (set : List ℕ) → Selection
+abbrev pub selection_in : (uid : List ℕ) (which : code.Option ℕ) (set : List ℕ) → Selection
 selection_in uid which set = select uid which (tree set) set
 
 -- the stream of a signature in a data set
-unfoldable pub stream_in : (uid : List ℕ) (which : prelude.Option ℕ) (set : List ℕ) → List ℕ
+unfoldable pub stream_in : (uid : List ℕ) (which : code.Option ℕ) (set : List ℕ) → List ℕ
 stream_in uid which set = stream_by (selection_in uid which set) set
 
 -- 9.5 up to 15: "1; 2 to 8; 18 to 23; 10; 11; 12; then for each tag in turn 13, 14, 15". 1 stands in `data_set` too.
-unfoldable pub answer_to15 : (uid : List ℕ) (which : prelude.Option ℕ) (set : List ℕ) → Answer
+unfoldable pub answer_to15 : (uid : List ℕ) (which : code.Option ℕ) (set : List ℕ) → Answer
 answer_to15 uid which set = size_answer set or_else answer_of (data_set set) or_else selection_answer (selection_in uid which set)
 
 -- 7.9, what a measuring call answers: the order up to 15; or else "with number 0 the length is the stream's"
-unfoldable pub measure : (uid : List ℕ) (which : prelude.Option ℕ) (set : List ℕ) → Answer
+unfoldable pub measure : (uid : List ℕ) (which : code.Option ℕ) (set : List ℕ) → Answer
 measure uid which set = answer_to15 uid which set or_else accepted (length (stream_in uid which set))
 
 -- ---- a call
@@ -50,7 +50,7 @@ measure uid which set = answer_to15 uid which set or_else accepted (length (stre
 -- expected digest, which a call for the stream has not.
 pub record Call : Type 0 where
   pub uid : List ℕ
-  pub which : prelude.Option ℕ
+  pub which : code.Option ℕ
   pub set : List ℕ
   pub room : ℕ
   pub expected : Option (List ℕ)
@@ -74,9 +74,9 @@ result c = record { answer = answer c; stream = stream c; expected = c.expected 
 -- ---- the calls that the functions make; what they promise of them is `Streamed` and `CheckedAs`
 
 -- signature mode for the stream, into the output `out`
-abbrev pub stream_call : (uid : List ℕ) (which : prelude.Option ℕ) (set out : List ℕ) → Call
+abbrev pub stream_call : (uid : List ℕ) (which : code.Option ℕ) (set out : List ℕ) → Call
 stream_call uid which set out = record { uid = uid; which = which; set = set; room = length out; expected = Opt.none }
 
 -- signature mode for the check, with the work buffer `work`
-abbrev pub check_call : (uid : List ℕ) (which : prelude.Option ℕ) (set expected work : List ℕ) → Call
+abbrev pub check_call : (uid : List ℕ) (which : code.Option ℕ) (set expected work : List ℕ) → Call
 check_call uid which set expected work = record { uid = uid; which = which; set = set; room = length work; expected = some expected }

@@ -16,12 +16,12 @@ use selection::select::Algorithm;
 // three, and `verdict_of` (specs/Result) says which.
 #[derive(Clone, Copy, Debug, PartialEq, Eq)]
 pub enum Verdict {
-    Neither,
-    Same,
-    Differs,
+    Neither = 0,
+    Same = 1,
+    Differs = 2,
 }
 
-// What a check gives back.
+// What a check gives back. `CheckedAs` and C have a verdict beside a refusal, too (RULES 7.4), which a `Result` would not.
 #[derive(Clone, Copy, Debug, PartialEq, Eq)]
 pub struct Checked {
     pub answer: Answer,

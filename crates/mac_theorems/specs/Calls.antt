@@ -1,7 +1,7 @@
 -- A call in either mode: its data set, its list (empty where none is selected), its output room, and what it comes to; and what a function
 -- that makes it gives back.
 -- Assumes nothing.
-use Rattle.std.specs.Prelude as prelude
+use Rattle.std.specs.Prelude as code
 use Rattle.std.specs.Prelude.{ℕ, ◌≡◌, List, [], length}
 use Rattle.answer.specs.declared.Answer.{Answer}
 use Rattle.slices.specs.Lists.{OfBytes}
@@ -54,9 +54,9 @@ pub record PromisedRuns : Type 0 where
   pub list-check : (list set expected work after : List ℕ) (r : Checked)
       → CheckedAs (list_mode.result (list_mode.check_call list set expected work)) set work r after
       → Run (in_list_mode (list_mode.check_call list set expected work)) work r.answer (verdict_code r.verdict) after
-  pub signature-stream : (uid : List ℕ) (which : prelude.Option ℕ) (set out after : List ℕ) (r : Answer)
+  pub signature-stream : (uid : List ℕ) (which : code.Option ℕ) (set out after : List ℕ) (r : Answer)
       → Streamed (signature_mode.result (signature_mode.stream_call uid which set out)) set out r after
       → Run (in_signature_mode (signature_mode.stream_call uid which set out)) out r neither after
-  pub signature-check : (uid : List ℕ) (which : prelude.Option ℕ) (set expected work after : List ℕ) (r : Checked)
+  pub signature-check : (uid : List ℕ) (which : code.Option ℕ) (set expected work after : List ℕ) (r : Checked)
       → CheckedAs (signature_mode.result (signature_mode.check_call uid which set expected work)) set work r after
       → Run (in_signature_mode (signature_mode.check_call uid which set expected work)) work r.answer (verdict_code r.verdict) after

@@ -1,7 +1,7 @@
 -- Examples of signature mode: one small data set; one whose signature item has every kind of element that is left out; and from the first,
 -- each of 18 to 23 and 10. docs/RULES.md, 15, has none for this mode. Proved together in proofs/SignatureExamples.antt.
 -- Assumes nothing.
-use Rattle.std.specs.Prelude as prelude
+use Rattle.std.specs.Prelude as code
 use Rattle.std.specs.Prelude.{Some, None}
 use Rattle.std.specs.Prelude.{ℕ, ◌+◌, ◌≡◌, List, [], ◌∷◌, ◌++◌, map, length, drop}
 use Rattle.answer.specs.declared.Answer.{Answer}
@@ -12,7 +12,7 @@ use Rattle.mac_theorems.specs.Examples.{untouched, A, modality, SQreserved, OBre
 
 pub record SignatureExample : Type 0 where
   pub uid : List ℕ
-  pub which : prelude.Option ℕ
+  pub which : code.Option ℕ
   pub set : List ℕ
   pub answers : Answer
   pub stream : List ℕ
@@ -138,10 +138,10 @@ crowded_stream = A ++ mac_id US 1 ++ written_sequence ++ SQreserved ++ item ++ e
 
 -- ---- the examples
 
-abbrev accepts : (which : prelude.Option ℕ) (set : List ℕ) (length : ℕ) (stream : List ℕ) → SignatureExample
+abbrev accepts : (which : code.Option ℕ) (set : List ℕ) (length : ℕ) (stream : List ℕ) → SignatureExample
 accepts which set length stream = record { uid = explicit_vr_little_endian; which = which; set = set; answers = accepted length; stream = stream }
 
-abbrev refuses : (which : prelude.Option ℕ) (uid set : List ℕ) (number : ℕ) → SignatureExample
+abbrev refuses : (which : code.Option ℕ) (uid set : List ℕ) (number : ℕ) → SignatureExample
 refuses which uid set number = record { uid = uid; which = which; set = set; answers = refused number 0; stream = [] }
 
 -- of the first signature, with the UID of the parameters

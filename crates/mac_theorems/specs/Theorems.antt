@@ -1,7 +1,7 @@
 -- What is true of the two modes beside demand 3: statements that a reader of the definitions would ask for, all in the record Theorems,
 -- proved in proofs/Theorems.antt.
 -- Assumes nothing.
-use Rattle.std.specs.Prelude as prelude
+use Rattle.std.specs.Prelude as code
 use Rattle.std.specs.Prelude.{ℕ, ◌≤◌, ◌<◌, ◌≡◌, ◌↔◌, ◌≢◌, true, false, List, ◌++◌, ltb, length, take, drop, if◌then◌else◌}
 use Rattle.std.proofs.Math.Option.{some}
 use Rattle.std.proofs.Math.Option as Opt
@@ -77,7 +77,7 @@ VerdictExact = (c : EitherCall) (e : List ℕ) → (result_of c).expected ≡ so
 pub record ChecksAsStream : Type 0 where
   pub of-list : (list set expected work : List ℕ) → length expected ≡ 32
       → list_mode.answer (list_mode.check_call list set expected work) ≡ list_mode.answer (list_mode.stream_call list set work)
-  pub of-signature : (uid : List ℕ) (which : prelude.Option ℕ) (set expected work : List ℕ) → length expected ≡ 32
+  pub of-signature : (uid : List ℕ) (which : code.Option ℕ) (set expected work : List ℕ) → length expected ≡ 32
       → signature_mode.answer (signature_mode.check_call uid which set expected work)
       ≡ signature_mode.answer (signature_mode.stream_call uid which set work)
 
@@ -86,12 +86,12 @@ pub record ChecksAsStream : Type 0 where
 pub record MeasuresAsStream : Type 0 where
   pub of-list : (list set out : List ℕ) → (list_mode.measure list set).length ≤ length out
       → list_mode.answer (list_mode.stream_call list set out) ≡ list_mode.measure list set
-  pub of-signature : (uid : List ℕ) (which : prelude.Option ℕ) (set out : List ℕ) → (signature_mode.measure uid which set).length ≤ length out
+  pub of-signature : (uid : List ℕ) (which : code.Option ℕ) (set out : List ℕ) → (signature_mode.measure uid which set).length ≤ length out
       → signature_mode.answer (signature_mode.stream_call uid which set out) ≡ signature_mode.measure uid which set
   pub never-9-in-list : (list set : List ℕ) → (list_mode.measure list set).number ≢ 9
   pub never-16-in-list : (list set : List ℕ) → (list_mode.measure list set).number ≢ 16
-  pub never-9-in-signature : (uid : List ℕ) (which : prelude.Option ℕ) (set : List ℕ) → (signature_mode.measure uid which set).number ≢ 9
-  pub never-16-in-signature : (uid : List ℕ) (which : prelude.Option ℕ) (set : List ℕ) → (signature_mode.measure uid which set).number ≢ 16
+  pub never-9-in-signature : (uid : List ℕ) (which : code.Option ℕ) (set : List ℕ) → (signature_mode.measure uid which set).number ≢ 9
+  pub never-16-in-signature : (uid : List ℕ) (which : code.Option ℕ) (set : List ℕ) → (signature_mode.measure uid which set).number ≢ 16
 
 -- ---- the length of the stream
 

@@ -16,7 +16,7 @@ use Rattle.answer.specs.Step.{step_by, test_by}
 use Rattle.answer.proofs.Laws.OrElse.{refused-first}
 use Rattle.std.proofs.lemmas.Result.{IfOk-at_ok}
 use Rattle.answer.proofs.Laws.Steps.{IsWhole, whole-accepted, whole-behind, step-before}
-use Rattle.std.specs.Prelude as prelude
+use Rattle.std.specs.Prelude as code
 use Rattle.std.specs.Prelude.{Ok, Err}
 use Rattle.dataset.specs.declared.extent.Extent.{Extent}
 use Rattle.stream.specs.Walk.{answer_from16, left_in, left_by, WrittenAs}
@@ -54,7 +54,7 @@ call-whole first stream room expected = whole-behind first _ (whole-behind _ _ (
 
 module _ (first : Answer) (stream : List ℕ) where
   -- a refusal up to 15
-  pub call-refused : (given : prelude.Option ℕ) (most : ℕ) (out : List ℕ) (a : Answer) → a ≡ first → (a.number ≡ 0 → ⊥)
+  pub call-refused : (given : code.Option ℕ) (most : ℕ) (out : List ℕ) (a : Answer) → a ≡ first → (a.number ≡ 0 → ⊥)
       → CallAnswered (call_of first stream (length out)) given most out (Err a) out
   unfolding output_after left_in
   call-refused given most out a e h =
@@ -68,13 +68,13 @@ module _ (first : Answer) (stream : List ℕ) where
       }
 
   -- what is signed lies where l, x and item say
-  module _ (l d : List ℕ) (x : Extent) (item : prelude.Option Extent) (e : first ≡ walk.answer_to15 l d x item) (s : stream ≡ walk.stream_in l d x item) where
-    pub measured-is : (r : prelude.Result ℕ Answer) → r ≡ step_by (walk.measure l d x item) → r ≡ step_by (first or_else accepted (length stream))
+  module _ (l d : List ℕ) (x : Extent) (item : code.Option Extent) (e : first ≡ walk.answer_to15 l d x item) (s : stream ≡ walk.stream_in l d x item) where
+    pub measured-is : (r : code.Result ℕ Answer) → r ≡ step_by (walk.measure l d x item) → r ≡ step_by (first or_else accepted (length stream))
     unfolding walk.measure
     measured-is r q = q ∙ rw (e, s) refl
 
-    pub call-written : (of : Algorithm) (given : prelude.Option ℕ) (most : ℕ) (out : List ℕ) → length d + length d ≤ most → (later : prelude.Result (Unit {0}) Answer)
-        → later ≡ test_by (length_answer of given) → (r : prelude.Result ℕ Answer) (ys : List ℕ) → WrittenAs l d x item later out r ys
+    pub call-written : (of : Algorithm) (given : code.Option ℕ) (most : ℕ) (out : List ℕ) → length d + length d ≤ most → (later : code.Result (Unit {0}) Answer)
+        → later ≡ test_by (length_answer of given) → (r : code.Result ℕ Answer) (ys : List ℕ) → WrittenAs l d x item later out r ys
         → CallAnswered (call_of first stream (length out)) given most out r ys
     unfolding output_after walk.answer answer_from9
     call-written of given most out k later q r ys t =
@@ -88,7 +88,7 @@ module _ (first : Answer) (stream : List ℕ) where
         record {
           streamed = λ expected g. record {
             answers = same expected g;
-            output = t.output ∙ ap (λ (b : List ℕ). left_by r b out) (sym s) ∙ ap (λ (v : prelude.Result ℕ Answer). left_by v stream out) (same expected g)
+            output = t.output ∙ ap (λ (b : List ℕ). left_by r b out) (sym s) ∙ ap (λ (v : code.Result ℕ Answer). left_by v stream out) (same expected g)
                 ∙ left-step _ stream out;
           };
           long = λ expected n z. (fits n z).long ∙ ap length (sym s);

@@ -1,6 +1,6 @@
 -- For inner contracts; no part of what a reader has to believe: the check, by the answer of its stream.
 -- Assumes nothing.
-use Rattle.std.specs.Prelude as prelude
+use Rattle.std.specs.Prelude as code
 use Rattle.std.specs.Prelude.{ℕ, ◌≡◌, not, List, Some, None, Ok, Err, eqb, length, take, if◌then◌else◌}
 use Rattle.std.proofs.Math.Option.{Option, some}
 use Rattle.std.proofs.Math.Option as Opt
@@ -26,12 +26,12 @@ digest_length a = (standard a).size
 -- ---- a check
 
 -- an expected digest as it is handed down
-abbrev pub length_of : Option (List ℕ) → prelude.Option ℕ
+abbrev pub length_of : Option (List ℕ) → code.Option ℕ
 length_of Opt.none = None
 length_of (some e) = Some (length e)
 
 -- 9, by what is handed down; or else number 0
-abbrev pub length_answer : Algorithm → prelude.Option ℕ → Answer
+abbrev pub length_answer : Algorithm → code.Option ℕ → Answer
 length_answer a None = accepted 0
 length_answer a (Some n) = if not (eqb n (digest_length a)) then refused 9 0 else accepted 0
 
@@ -40,7 +40,7 @@ abbrev pub refused_check : Answer → Checked
 refused_check a = record { answer = a; verdict = verdict.Neither }
 
 -- by the algorithm and the step that wrote its stream: its refusal; or what the digest of that many bytes of the work buffer says
-abbrev pub CheckOf : (of : Algorithm) → prelude.Result ℕ Answer → (expected work : List ℕ) → Checked → Type 0
+abbrev pub CheckOf : (of : Algorithm) → code.Result ℕ Answer → (expected work : List ℕ) → Checked → Type 0
 CheckOf of (Err a) expected work r = r ≡ refused_check a
 CheckOf of (Ok n) expected work r =
     (r.answer ≡ accepted n) × (verdict_code r.verdict ≡ compared (some expected) (hashing (standard of) (take n work)).digest)

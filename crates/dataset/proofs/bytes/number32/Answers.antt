@@ -1,8 +1,8 @@
--- `number32` meets its contract: by arithmetic. Assumes nothing.
-use native.Mathlib.Omega.{arith}
-use Rattle.dataset.specs.Bytes.{num32}
+-- `number32` meets its contract: the four bytes are the two numbers of two. Assumes nothing.
+use Rattle.std.proofs.Common.{arith, ◌≡◌, ◌+◌}
+use Rattle.dataset.specs.Bytes.{num16, num32}
 use Rattle.dataset.proofs.bytes.number32.Goals as goal
 
 pub returns : goal.returns
-unfolding num32
-returns c = omega arith
+unfolding num16 num32
+returns c = let e : c.args.i + 2 + 1 ≡ c.args.i + 3 = omega arith in rw e (omega (arith, c.from_le_bytes.ensures))

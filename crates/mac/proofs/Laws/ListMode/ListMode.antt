@@ -11,7 +11,7 @@ use Rattle.answer.specs.Answer.{◌or_else◌}
 use Rattle.answer.specs.Step.{step_by, test_by, answer_by}
 use Rattle.answer.proofs.Laws.OrElse.{or-else-second, refused-first}
 use Rattle.answer.proofs.Laws.Steps.{IsWhole, whole-accepted, whole-behind, step-answer, step-before, test-is, test-refused}
-use Rattle.std.specs.Prelude as prelude
+use Rattle.std.specs.Prelude as code
 use Rattle.std.specs.Prelude.{None, Err}
 use Rattle.dataset.specs.Tree.{Elements}
 use Rattle.dataset.specs.Reading.{Reading, size_limit, size_answer, data_set, answer_of, tree_of}
@@ -37,7 +37,7 @@ use Rattle.mac.proofs.Laws.Verdict.VerdictOfChecks.{AllFit, call-streamed, call-
 
 module _ (l d : List ℕ) where
   -- ---- 1
-  module _ (r : prelude.Result (Unit {0}) Answer) (e : r ≡ test_by (size_answer d)) (a : Answer) (q : r ≡ Err a) where
+  module _ (r : code.Result (Unit {0}) Answer) (e : r ≡ test_by (size_answer d)) (a : Answer) (q : r ≡ Err a) where
     some-number : a.number ≡ 0 → ⊥
     some-number = test-refused r (size_answer d) e a q
 
@@ -49,11 +49,11 @@ module _ (l d : List ℕ) where
     unfolding measure
     list_over = step-before a (answer_to15 l d) _ over λ z. some-number (ap (λ (x : Answer). x.number) over ∙ z)
 
-    pub list-refused : (given : prelude.Option ℕ) (out : List ℕ) → CallAnswered (list_call l d out) given limit out (Err a) out
+    pub list-refused : (given : code.Option ℕ) (out : List ℕ) → CallAnswered (list_call l d out) given limit out (Err a) out
     unfolding answer
     list-refused given out = call-refused (answer_to15 l d) (stream_in l d) given limit out a over some-number
 
-  pub measure-whole : (r : prelude.Result ℕ Answer) (a : Answer) → r ≡ step_by (measure l d) → a ≡ answer_by r → a ≡ measure l d
+  pub measure-whole : (r : code.Result ℕ Answer) (a : Answer) → r ≡ step_by (measure l d) → a ≡ answer_by r → a ≡ measure l d
   unfolding measure
   measure-whole r a e q = q ∙ step-answer r (measure l d) e (whole-behind (answer_to15 l d) _ (whole-accepted (length (stream_in l d))))
 
@@ -73,12 +73,12 @@ module _ (l d : List ℕ) where
     unfolding stream_in walk.stream_in signed_stream own elements_stream
     stream-is = ap (λ (p : Reading Elements). listed_stream (tags_in l) (tree_of p) d) whole ∙ sym (append-nil _)
 
-    pub list-measured : (r : prelude.Result ℕ Answer) → r ≡ step_by (walk.measure l d x None) → r ≡ step_by (measure l d)
+    pub list-measured : (r : code.Result ℕ Answer) → r ≡ step_by (walk.measure l d x None) → r ≡ step_by (measure l d)
     unfolding measure
     list-measured r e = measured-is (answer_to15 l d) (stream_in l d) l d x None answer-is stream-is r e
 
-    pub list_written : (of : Algorithm) (given : prelude.Option ℕ) (later : prelude.Result (Unit {0}) Answer) → later ≡ test_by (length_answer of given)
-        → (out : List ℕ) (r : prelude.Result ℕ Answer) (ys : List ℕ)
+    pub list_written : (of : Algorithm) (given : code.Option ℕ) (later : code.Result (Unit {0}) Answer) → later ≡ test_by (length_answer of given)
+        → (out : List ℕ) (r : code.Result ℕ Answer) (ys : List ℕ)
         → WrittenAs l d x None later out r ys → CallAnswered (list_call l d out) given limit out r ys
     unfolding answer
     list_written of given later q out r ys t =
@@ -90,10 +90,10 @@ module _ (l d out : List ℕ) (expected : Option (List ℕ)) where
   unfolding answer
   whole-call = call-whole (answer_to15 l d) (stream_in l d) (length out) expected
 
-pub list-streamed : (l d out after : List ℕ) (r : prelude.Result ℕ Answer) (a : Answer) → CallAnswered (list_call l d out) (length_of Opt.none) limit out r after
+pub list-streamed : (l d out after : List ℕ) (r : code.Result ℕ Answer) (a : Answer) → CallAnswered (list_call l d out) (length_of Opt.none) limit out r after
     → a ≡ answer_by r → AllFit d → Streamed (result (stream_call l d out)) d out a after
 list-streamed l d out after r a s e b = call-streamed (list_call l d out) d out after r a e s (whole-call l d out Opt.none) b
 
-pub list-checked : (l d expected work after : List ℕ) (w : prelude.Result ℕ Answer) → CallAnswered (list_call l d work) (length_of (some expected)) limit work w after
+pub list-checked : (l d expected work after : List ℕ) (w : code.Result ℕ Answer) → CallAnswered (list_call l d work) (length_of (some expected)) limit work w after
     → (of : Algorithm) (r : Checked) → CheckOf of w expected after r → AllFit d → CheckedAs (result (check_call l d expected work)) d work r after
 list-checked l d expected work after w s of r k b = call-checked (list_call l d work) d expected work after w s refl b of r (whole-call l d work (some expected)) k

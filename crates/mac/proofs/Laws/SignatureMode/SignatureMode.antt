@@ -11,7 +11,7 @@ use Rattle.answer.specs.declared.Answer.{Answer}
 use Rattle.answer.specs.Answer.{accepted, refused, ◌or_else◌}
 use Rattle.answer.specs.Step.{step_by, test_by, answer_by}
 use Rattle.answer.proofs.Laws.Steps.{IsWhole, whole-accepted, whole-behind, step-answer, step-before, test-is, test-refused}
-use Rattle.std.specs.Prelude as prelude
+use Rattle.std.specs.Prelude as code
 use Rattle.std.specs.Prelude.{Some, None, Ok, Err, IfOk}
 use Rattle.answer.proofs.Laws.OrElse.{or-else-first, or-else-second, refused-first}
 use Rattle.slices.specs.Lists.{between}
@@ -41,7 +41,7 @@ use Rattle.mac.proofs.Laws.EitherCall.{call-whole, call-refused, measured-is, ca
 use Rattle.mac.proofs.Laws.Verdict.VerdictOfChecks.{AllFit, call-streamed, call-room, call-neither, call-checked}
 
 -- ---- what is selected, where the data set is read as p
-pub record Picked (uid : List ℕ) (which : prelude.Option ℕ) (d : List ℕ) (x : Extent) (p : Reading Elements) (s : Selected) : Type 0 where
+pub record Picked (uid : List ℕ) (which : code.Option ℕ) (d : List ℕ) (x : Extent) (p : Reading Elements) (s : Selected) : Type 0 where
   pub elements : Elements
   pub next : ℕ
   pub reads : p ≡ read elements next
@@ -51,7 +51,7 @@ pub record Picked (uid : List ℕ) (which : prelude.Option ℕ) (d : List ℕ) (
   pub selects : select uid which elements d ≡ selected (list_in d s) algorithm signed item
   pub parts : IsSelected d x (list_in d s) algorithm signed item s
 
-module _ (uid : List ℕ) (which : prelude.Option ℕ) (d : List ℕ) (r : prelude.Result Selected Answer) (s : Selected) (e : r ≡ Ok s) (x : Extent) where
+module _ (uid : List ℕ) (which : code.Option ℕ) (d : List ℕ) (r : code.Result Selected Answer) (s : Selected) (e : r ≡ Ok s) (x : Extent) where
   picked-by : (es : Elements) (n : ℕ) (m : mode.Selection) → select uid which es d ≡ m → SelectionAs d x m r → Picked uid which d x (read es n) s
   unfolding between
   picked-by es n (refusal k) q h = absurd (true≢false (cc))
@@ -75,18 +75,18 @@ module _ (uid : List ℕ) (which : prelude.Option ℕ) (d : List ℕ) (r : prelu
   picked (read es n) h = picked-by es n (select uid which es d) refl h
 
 -- ---- `select_whole`
-module _ (uid : List ℕ) (which : prelude.Option ℕ) (d : List ℕ) where
+module _ (uid : List ℕ) (which : code.Option ℕ) (d : List ℕ) where
   refused_as : (a f : Answer) → a ≡ f → (f.number ≡ 0 → ⊥) → f ≡ answer_to15 uid which d → SignatureSelected uid which d (Err a)
   refused_as a f e n q = record { number = λ z. n (ap (λ (x : Answer). x.number) (sym e) ∙ z); answers = e ∙ q }
 
   -- 1
-  pub select-over : (v : prelude.Result (Unit {0}) Answer) (a : Answer) → v ≡ test_by (size_answer d) → v ≡ Err a → SignatureSelected uid which d (Err a)
+  pub select-over : (v : code.Result (Unit {0}) Answer) (a : Answer) → v ≡ test_by (size_answer d) → v ≡ Err a → SignatureSelected uid which d (Err a)
   unfolding answer_to15
   select-over v a e q =
       let n = test-refused v (size_answer d) e a q in
       refused_as a a refl n (refused-first a (size_answer d) _ (test-is v (size_answer d) e a q) n)
 
-  module _ (h : length d ≤ size_limit) (x : Extent) (w : x ≡ whole_of (length d)) (r : prelude.Result Selected Answer) (t : SelectedIn uid which d x x r) where
+  module _ (h : length d ≤ size_limit) (x : Extent) (w : x ≡ whole_of (length d)) (r : code.Result Selected Answer) (t : SelectedIn uid which d x x r) where
     whole : data_set d ≡ elements_in d x
     whole = rw w (data-set-is d h)
 
@@ -117,7 +117,7 @@ module _ (uid : List ℕ) (which : prelude.Option ℕ) (d : List ℕ) where
       g : Picked uid which d x (elements_in d x) s
       g = picked uid which d r s e x (elements_in d x) t
 
-      abbrev item : prelude.Option Extent
+      abbrev item : code.Option Extent
       item = Some s.item
 
       abbrev what : mode.Selection
@@ -145,7 +145,7 @@ module _ (uid : List ℕ) (which : prelude.Option ℕ) (d : List ℕ) where
       lies : SelectionLies uid which d s
       lies = record { order = g.parts.order; inside = g.parts.inside; small = h; answers = answer-is; stream-is = stream-is }
 
-    by-case : (v : prelude.Result Selected Answer) → r ≡ v → SignatureSelected uid which d v
+    by-case : (v : code.Result Selected Answer) → r ≡ v → SignatureSelected uid which d v
     by-case (Err f) e = is-refused f e
     by-case (Ok s) e = lies s e
 
@@ -154,8 +154,8 @@ module _ (uid : List ℕ) (which : prelude.Option ℕ) (d : List ℕ) where
 
 -- ---- measuring, and a call, by its expected digest; v is what is selected
 
-module _ (uid : List ℕ) (which : prelude.Option ℕ) (d : List ℕ) where
-  pub measure-whole : (r : prelude.Result ℕ Answer) (a : Answer) → r ≡ step_by (measure uid which d) → a ≡ answer_by r → a ≡ measure uid which d
+module _ (uid : List ℕ) (which : code.Option ℕ) (d : List ℕ) where
+  pub measure-whole : (r : code.Result ℕ Answer) (a : Answer) → r ≡ step_by (measure uid which d) → a ≡ answer_by r → a ≡ measure uid which d
   unfolding measure
   measure-whole r a e q = q ∙ step-answer r (measure uid which d) e (whole-behind (answer_to15 uid which d) _ (whole-accepted (length (stream_in uid which d))))
 
@@ -163,11 +163,11 @@ module _ (uid : List ℕ) (which : prelude.Option ℕ) (d : List ℕ) where
   unfolding answer
   whole-call out expected = call-whole (answer_to15 uid which d) (stream_in uid which d) (length out) expected
 
-  pub signature-streamed : (out after : List ℕ) (r : prelude.Result ℕ Answer) (a : Answer) → CallAnswered (signature_call uid which d out) None limit out r after
+  pub signature-streamed : (out after : List ℕ) (r : code.Result ℕ Answer) (a : Answer) → CallAnswered (signature_call uid which d out) None limit out r after
       → a ≡ answer_by r → AllFit d → Streamed (result (stream_call uid which d out)) d out a after
   signature-streamed out after r a s e b = call-streamed (signature_call uid which d out) d out after r a e s (whole-call out Opt.none) b
 
-module _ (uid : List ℕ) (which : prelude.Option ℕ) (d : List ℕ) (v : prelude.Result Selected Answer) (t : SignatureSelected uid which d v) where
+module _ (uid : List ℕ) (which : code.Option ℕ) (d : List ℕ) (v : code.Result Selected Answer) (t : SignatureSelected uid which d v) where
   module _ (a : Answer) (e : v ≡ Err a) where
     is-refusal : SelectionRefused uid which d a
     is-refusal = rw e at t
@@ -178,7 +178,7 @@ module _ (uid : List ℕ) (which : prelude.Option ℕ) (d : List ℕ) (v : prelu
         let k = is-refusal in
         step-before a (answer_to15 uid which d) _ k.answers λ z. k.number (ap (λ (x : Answer). x.number) k.answers ∙ z)
 
-    pub refused-call : (given : prelude.Option ℕ) (out : List ℕ) → CallAnswered (signature_call uid which d out) given limit out (Err a) out
+    pub refused-call : (given : code.Option ℕ) (out : List ℕ) → CallAnswered (signature_call uid which d out) given limit out (Err a) out
     unfolding answer
     refused-call given out = call-refused (answer_to15 uid which d) (stream_in uid which d) given limit out a is-refusal.answers is-refusal.number
 
@@ -196,13 +196,13 @@ module _ (uid : List ℕ) (which : prelude.Option ℕ) (d : List ℕ) (v : prelu
     pub selected-inside : s.end ≤ length d
     selected-inside = is-selected.inside
 
-    pub selected-measured : (r : prelude.Result ℕ Answer) → r ≡ step_by (walk.measure (list_in d s) d s.signed (Some s.item)) → r ≡ step_by (measure uid which d)
+    pub selected-measured : (r : code.Result ℕ Answer) → r ≡ step_by (walk.measure (list_in d s) d s.signed (Some s.item)) → r ≡ step_by (measure uid which d)
     unfolding measure
     selected-measured r q =
         measured-is (answer_to15 uid which d) (stream_in uid which d) (list_in d s) d s.signed (Some s.item) is-selected.answers is-selected.stream-is r q
 
     -- what is written, by the expected digest's length
-    module _ (given : prelude.Option ℕ) (out : List ℕ) (r : prelude.Result ℕ Answer) (after : List ℕ) (w : SelectedWritten d s given out r after) where
+    module _ (given : code.Option ℕ) (out : List ℕ) (r : code.Result ℕ Answer) (after : List ℕ) (w : SelectedWritten d s given out r after) where
       pub selected-call : CallAnswered (signature_call uid which d out) given limit out r after
       unfolding answer
       selected-call =
@@ -213,13 +213,13 @@ module _ (uid : List ℕ) (which : prelude.Option ℕ) (d : List ℕ) (v : prelu
       pub selected-room : length after ≡ length out → IfOk r (λ n. n ≤ length after)
       selected-room = call-room (signature_call uid which d out) d out after r given selected-call
 
-    pub selected-checked : (expected work : List ℕ) (w : prelude.Result ℕ Answer) (after : List ℕ) → SelectedWritten d s (length_of (some expected)) work w after
+    pub selected-checked : (expected work : List ℕ) (w : code.Result ℕ Answer) (after : List ℕ) → SelectedWritten d s (length_of (some expected)) work w after
         → (r : Checked) → CheckOf s.algorithm w expected after r → AllFit d → CheckedAs (result (check_call uid which d expected work)) d work r after
     selected-checked expected work w after h r k b =
         call-checked (signature_call uid which d work) d expected work after w (selected-call (length_of (some expected)) work w after h) refl b s.algorithm r
         (whole-call uid which d work (some expected)) k
 
 -- ---- `write_selected`
-pub selected-written : (d : List ℕ) (s : Selected) (given : prelude.Option ℕ) (later : prelude.Result (Unit {0}) Answer) → later ≡ test_by (length_answer s.algorithm given)
-    → (out : List ℕ) (r : prelude.Result ℕ Answer) (after : List ℕ) → WrittenAs (list_in d s) d s.signed (Some s.item) later out r after → SelectedWritten d s given out r after
+pub selected-written : (d : List ℕ) (s : Selected) (given : code.Option ℕ) (later : code.Result (Unit {0}) Answer) → later ≡ test_by (length_answer s.algorithm given)
+    → (out : List ℕ) (r : code.Result ℕ Answer) (after : List ℕ) → WrittenAs (list_in d s) d s.signed (Some s.item) later out r after → SelectedWritten d s given out r after
 selected-written d s given later q out r after w = rw q at w

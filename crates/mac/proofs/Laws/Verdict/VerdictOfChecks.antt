@@ -25,7 +25,7 @@ use Rattle.mac.specs.Inner.Verdict.{CheckOf, standard, digest_length, length_of,
 use Rattle.mac.specs.Inner.Calls.{Left, CallAnswered}
 use Rattle.answer.specs.Step.{test_by, answer_by}
 use Rattle.answer.proofs.Laws.Steps.{IsWhole, step-answer, step-is, step-accepted}
-use Rattle.std.specs.Prelude as prelude
+use Rattle.std.specs.Prelude as code
 use Rattle.std.specs.Prelude.{Some, None, Ok, Err, IfOk}
 use Rattle.mac.specs.declared.verdict.Verdict.{Verdict}
 use Rattle.mac.specs.declared.verdict.Checked.{Checked}
@@ -38,7 +38,7 @@ pub sha256-digest : (of : Algorithm) (m : List ℕ) (g : Hashed) → g ≡ hashi
 sha256-digest algorithm.Sha256 m g q = q
 
 -- ---- 9
-module _ (of : Algorithm) (e : prelude.Option ℕ) where
+module _ (of : Algorithm) (e : code.Option ℕ) where
   pub length_none : e ≡ None → Ok tt ≡ test_by (length_answer of e)
   unfolding test_by
   length_none q = rw q
@@ -65,7 +65,7 @@ hashes : (of : Algorithm) (m : List ℕ) → length m ≤ limit → (hashing (st
 unfolding hashing
 hashes algorithm.Sha256 m h = rw (le-leb (length m) limit h)
 
-module _ (of : Algorithm) (w : prelude.Result ℕ Answer) (expected work : List ℕ) where
+module _ (of : Algorithm) (w : code.Result ℕ Answer) (expected work : List ℕ) where
   pub check-refused : (a : Answer) (r : Checked) → w ≡ Err a → r ≡ refused_check a → CheckOf of w expected work r
   check-refused a r q e = rw (q, e) refl
 
@@ -79,21 +79,21 @@ module _ (of : Algorithm) (w : prelude.Result ℕ Answer) (expected work : List 
 abbrev pub AllFit : List ℕ → Type 0
 AllFit d = (i : ℕ) → Fits w8 (get_or d i 0)
 
-module _ (call : Option (List ℕ) → Result) (d out after : List ℕ) (r : prelude.Result ℕ Answer) where
+module _ (call : Option (List ℕ) → Result) (d out after : List ℕ) (r : code.Result ℕ Answer) where
   pub call-streamed : (a : Answer) → a ≡ answer_by r → CallAnswered call (length_of Opt.none) limit out r after → IsWhole (call Opt.none).answer → AllFit d
       → Streamed (call Opt.none) d out a after
   call-streamed a e s w b =
       let t = s.streamed Opt.none refl in
       record { answers = e ∙ step-answer r (call Opt.none).answer t.answers w; output = t.output; bytes = λ i. (b i).fits }
 
-  pub call-room : (given : prelude.Option ℕ) → CallAnswered call given limit out r after → length after ≡ length out → IfOk r (λ n. n ≤ length after)
+  pub call-room : (given : code.Option ℕ) → CallAnswered call given limit out r after → length after ≡ length out → IfOk r (λ n. n ≤ length after)
   call-room given s k = go r refl
     where
-      go : (v : prelude.Result ℕ Answer) → r ≡ v → IfOk v (λ n. n ≤ length after)
+      go : (v : code.Result ℕ Answer) → r ≡ v → IfOk v (λ n. n ≤ length after)
       go (Ok n) q = omega (arith, s.room n q)
       go (Err a) q = tt
 
-module _ (call : Option (List ℕ) → Result) (d expected work after : List ℕ) (w : prelude.Result ℕ Answer)
+module _ (call : Option (List ℕ) → Result) (d expected work after : List ℕ) (w : code.Result ℕ Answer)
     (s : CallAnswered call (length_of (some expected)) limit work w after) (e : (call (some expected)).expected ≡ some expected) (b : AllFit d) where
   abbrev c : Result
   c = call (some expected)
@@ -137,6 +137,6 @@ module _ (call : Option (List ℕ) → Result) (d expected work after : List ℕ
   pub call-checked : (of : Algorithm) (r : Checked) → IsWhole c.answer → CheckOf of w expected after r → CheckedAs c d work r after
   call-checked of r o k = go w refl k
     where
-      go : (v : prelude.Result ℕ Answer) → w ≡ v → CheckOf of v expected after r → CheckedAs c d work r after
+      go : (v : code.Result ℕ Answer) → w ≡ v → CheckOf of v expected after r → CheckedAs c d work r after
       go (Err a) q h = call-neither a r q h
       go (Ok n) q h = call-said of n r q o h.0 h.1

@@ -1,6 +1,6 @@
 -- A check with an expected digest of 32 bytes answers as the call for the stream does, and so does measuring where the room is enough. Assumes
 -- nothing.
-use Rattle.std.specs.Prelude as prelude
+use Rattle.std.specs.Prelude as code
 use Prim.Native.Nat.{ℕ, ◌≤◌}
 use mathlib.Core.Path.{◌≡◌, refl, ap}
 use mathlib.Core.Bool.{false}
@@ -46,7 +46,7 @@ pub list-measured : (list set out : List ℕ) → (list_mode.measure list set).l
 unfolding list_mode.answer list_mode.measure
 list-measured list set out = measured (list_mode.answer_to15 list set) (list_mode.stream_in list set) (length out)
 
-pub signature-measured : (uid : List ℕ) (which : prelude.Option ℕ) (set out : List ℕ) → (signature_mode.measure uid which set).length ≤ length out
+pub signature-measured : (uid : List ℕ) (which : code.Option ℕ) (set out : List ℕ) → (signature_mode.measure uid which set).length ≤ length out
     → signature_mode.answer (signature_mode.stream_call uid which set out) ≡ signature_mode.measure uid which set
 unfolding signature_mode.answer signature_mode.measure
 signature-measured uid which set out = measured (signature_mode.answer_to15 uid which set) (signature_mode.stream_in uid which set) (length out)

@@ -1,6 +1,6 @@
 -- What signature mode selects: a refusal of 18 to 23, or a list, an algorithm, the data set and the signature item. The stream of this item's
 -- elements is no longer than that of (FFFA,FFFA). Assumes nothing.
-use Rattle.std.specs.Prelude as prelude
+use Rattle.std.specs.Prelude as code
 use Rattle.std.specs.Prelude.{Some, None}
 use Rattle.std.proofs.Common.{if◌then◌else◌}
 use Prim.Native.Nat.{ℕ, ◌+◌, ◌≤◌}
@@ -26,7 +26,7 @@ module _ (P : Selection → Type 0) (refused : (number : ℕ) → 18 ≤ number 
   need-holds number l u Opt.none on k = refused number l u
   need-holds number l u (some a) on k = k a refl
 
-  pub select-holds : (uid : List ℕ) (which : prelude.Option ℕ) (es : Elements) (d : List ℕ)
+  pub select-holds : (uid : List ℕ) (which : code.Option ℕ) (es : Elements) (d : List ℕ)
       → ((item : Elements) → signature_item which es ≡ some item → (list : List ℕ) (algorithm : Algorithm) → P (selected list algorithm es item)) → P (select uid which es d)
   unfolding select_in parameters_select
   select-holds uid which es d k =
@@ -57,7 +57,7 @@ module _ (d : List ℕ) (item : Elements) (test : ℕ → Elements → Bool) whe
   found_within (some (Element.sequence at tag span items)) e = let k = item-within 0 items e in simp length-append (omega arith)
   found_within (some (Element.fragments at tag span parts)) e = absurd (true≢false (cc))
 
-pub item-no-longer : (which : prelude.Option ℕ) (es : Elements) (d : List ℕ) (item : Elements) → signature_item which es ≡ some item
+pub item-no-longer : (which : code.Option ℕ) (es : Elements) (d : List ℕ) (item : Elements) → signature_item which es ≡ some item
     → length (elements_stream item d) ≤ length (found_stream (element_of digital_signatures_sequence es) d)
 unfolding signature_item
 item-no-longer None es d item e = found_within d item _ (element_of digital_signatures_sequence es) e

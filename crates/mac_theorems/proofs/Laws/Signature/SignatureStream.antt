@@ -1,6 +1,6 @@
 -- The stream of signature mode starts with list mode's for the list that is selected, and its answers from 10 on are list mode's. Assumes
 -- nothing.
-use Rattle.std.specs.Prelude as prelude
+use Rattle.std.specs.Prelude as code
 use Rattle.std.specs.Prelude.{Some, None}
 use Rattle.std.proofs.Common.{if◌then◌else◌}
 use Prim.Native.Nat.{ℕ, ◌≤◌}
@@ -63,14 +63,14 @@ module _ (first all : List ℕ) (room : ℕ) (expected : Option (List ℕ)) (l :
 -- ---- a call that selects a list
 
 -- what is signed is the data set itself
-same-elements : (uid : List ℕ) (which : prelude.Option ℕ) (whole : Elements) (d list : List ℕ) (algorithm : Algorithm) (es item : Elements)
+same-elements : (uid : List ℕ) (which : code.Option ℕ) (whole : Elements) (d list : List ℕ) (algorithm : Algorithm) (es item : Elements)
     → select uid which whole d ≡ selected list algorithm es item → es ≡ whole
 same-elements uid which whole d list algorithm es item e =
     select-holds (λ s. s ≡ selected list algorithm es item → es ≡ whole) (λ number l u q. absurd (true≢false (cc)))
     uid which whole d (λ other i listed named q. cc) e
 
 -- there is no signature item among no elements
-no_item : (which : prelude.Option ℕ) → signature_item which Elements.none ≡ Opt.none
+no_item : (which : code.Option ℕ) → signature_item which Elements.none ≡ Opt.none
 unfolding signature_item element_of
 no_item None = refl
 no_item (Some number) = refl
