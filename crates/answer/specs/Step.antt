@@ -12,6 +12,12 @@ step_by a = if eqb a.number 0 then Ok a.length else Err a
 unfoldable pub test_by : Answer → Result (Unit {0}) Answer
 test_by a = if eqb a.number 0 then Ok tt else Err a
 
+-- a step behind a test: its own, where the test passes, or else the test's refusal
+infixr 4 ◌and_then◌
+abbrev pub ◌and_then◌ : {A : Type 0} → Result (Unit {0}) Answer → Result A Answer → Result A Answer
+Ok u and_then step = step
+Err a and_then step = Err a
+
 -- the answer of a step
 abbrev pub answer_by : Result ℕ Answer → Answer
 answer_by (Ok length) = accepted length

@@ -14,6 +14,7 @@ pub struct Hashed {
     pub digest: [u8; 32],
 }
 
+// The digest of a whole message, or 25.
 fn digest_of(message: &[u8]) -> Result<[u8; 32], Answer>
     ensures { result ≡ hashing_step Sha256.sha256 message.now }
 {

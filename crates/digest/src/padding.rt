@@ -8,7 +8,8 @@ pub(crate) fn padded_size(count: usize) -> usize
     if count < 56 { 64 } else { 128 }
 }
 
-// The waiting bytes, the byte 0x80, zeros, and the eight bytes of the length in bits: n bytes in all.
+// The waiting bytes, the byte 0x80, zeros, and the eight bytes of the length in bits: n bytes in all. There is no heap, so that the room is
+// that of two blocks, of which n bytes count.
 pub(crate) fn padded(waiting: &[u8], bits: [u8; 8], n: usize) -> [u8; 128]
     requires { (length waiting.now + 9 ≤ n) × (n ≤ 128) }
     ensures { take n result ≡ waiting.now ++ (0x80 ∷ (replicate (n - 9 - length waiting.now) 0 ++ bits)) }

@@ -1,4 +1,5 @@
-// The digest of a whole message, and the running digest.
+// The digest of a whole message, and the running digest. A field that is an array has a name before it is stored: today's borrow checker
+// does not take one straight.
 ghost use Rattle.std.specs.Prelude.{◌≡◌};
 ghost use Rattle.digest.specs.Message.{hashing};
 ghost use Rattle.digest.specs.Running.{start};
@@ -9,7 +10,7 @@ use crate::c_values;
 use digest::message;
 use digest::running::Running;
 
-// The running digest that three arrays hold.
+// The running digest that three arrays hold: C passes them apart.
 fn running_of(words: [u32; 8], waiting: [u8; 64], counts: [u64; 2]) -> Running
     ensures { result ≡ running_of words waiting counts }
 {

@@ -1,4 +1,5 @@
-// Signature mode: the stream of a signature in the data set, its measuring, and the check of its digest.
+// Signature mode: the stream of a signature in the data set, its measuring, and the check of its digest. Public functions and steps are as
+// in list_mode.
 ghost use Rattle.std.specs.Prelude.{◌≡◌, ◌≤◌, length};
 ghost use Rattle.answer.specs.Step.{step_by};
 ghost use Rattle.digest.specs.Message.{limit};

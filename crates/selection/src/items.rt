@@ -40,8 +40,8 @@ fn has_key(d: &[u8], key: ItemKey, index: u64, id: Place) -> bool
 fn find_item(d: &[u8], x: Extent, key: ItemKey) -> Option<FoundItem>
     ensures { Lies d.now x → FoundItemIn d.now key.entry 0 (items_in d.now x) result }
 {
+    // both by hand: an item starts where the seeking in the one before it stopped, and no range of numbers says how many there are
     let mut at = x.from;
-    // counted by hand: the loop ends where the items do, which no range of numbers says
     let mut index: u64 = 0;
     while let OpenedItem::Item(inside) = extent::open_item(d, x, at).ok()? {
         let Sought {

@@ -36,8 +36,8 @@ fn signature_item(d: &[u8], which: Option<u64>, signatures: Place) -> Option<Fou
 }
 
 // What is selected in the data set x, which is `whole` or stands in it: the first fault of x, 18 to 23, or the list, the algorithm, the data set
-// and the signature item. `which` is the signature's number from 0, or None where none is named. The size is not tested:
-// `reading::size_answer` comes before.
+// and the signature item. `which` is the signature's number from 0, or None where none is named. `whole` is read by no line: the contract
+// has the two data sets apart (docs/DECISIONS.md, S12). The size is not tested: `reading::size_answer` comes before.
 pub fn select(
     uid: &[u8],
     which: Option<u64>,

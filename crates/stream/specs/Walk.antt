@@ -2,10 +2,10 @@
 -- extent of the item. Its stream, the numbers 10 to 16 (RULES, 9.4, 9.5), and what is left in the output.
 -- Assumes nothing.
 use Rattle.std.specs.Prelude.{ℕ, ◌+◌, ◌≤◌, ◌≡◌, List, ◌++◌, Option, Some, None, Result, Ok, Err, eqb, ltb, length, drop, if◌then◌else◌}
-use Rattle.std.specs.Result.{IfOk, IsErr}
+use Rattle.std.specs.Result.{IfOk}
 use Rattle.answer.specs.declared.Answer.{Answer}
 use Rattle.answer.specs.Answer.{accepted, refused, ◌or_else◌}
-use Rattle.answer.specs.Step.{step_by, test_by}
+use Rattle.answer.specs.Step.{step_by, test_by, ◌and_then◌}
 use Rattle.dataset.specs.Tree.{Elements}
 use Rattle.dataset.specs.Reading.{Reading, read, answer_of, tree_of}
 use Rattle.dataset.specs.Extent.{elements_in}
@@ -45,9 +45,9 @@ measure list d x item = answer_to15 list d x item or_else accepted (length (stre
 unfoldable pub answer_from16 : (stream : List ℕ) (room : ℕ) → Answer
 answer_from16 stream room = (if ltb room (length stream) then refused 16 0 else accepted 0) or_else accepted (length stream)
 
--- what writing answers, in the output room `room`; `later` is what the caller refuses behind 15 and before 16: number 9, or none
-unfoldable pub answer : (list d : List ℕ) → Extent → Option Extent → (later : Answer) (room : ℕ) → Answer
-answer list d x item later room = answer_to15 list d x item or_else later or_else answer_from16 (stream_in list d x item) room
+-- how writing goes in the output room `room`; `later` is the test of what the caller refuses behind 15 and before 16: number 9, or none
+unfoldable pub write_step : (list d : List ℕ) → Extent → Option Extent → (later : Result (Unit {0}) Answer) (room : ℕ) → Result ℕ Answer
+write_step list d x item later room = test_by (answer_to15 list d x item) and_then later and_then step_by (answer_from16 (stream_in list d x item) room)
 
 -- what a call with the answer a leaves in the output or work buffer `out`. 7.3: "An accepted call puts the stream at the start of the output
 -- and changes no later byte; .. A refused call changes no byte of the output". 7.4, of a check: "7.3 holds of its work buffer in place of an
@@ -55,9 +55,9 @@ answer list d x item later room = answer_to15 list d x item or_else later or_els
 unfoldable pub left_in : (a : Answer) (stream out : List ℕ) → List ℕ
 left_in a stream out = if eqb a.number 0 then stream ++ drop (length stream) out else out
 
--- ---- what `write` promises: r is its step, the stream's length or the refusal, and `after` what it leaves. `later` is the test of what the
--- caller refuses, by its answer. A refusal, of whatever it is, changes no byte. List and item may lie anywhere, so that the bound is twice the
--- data; that no stream is longer than its data set (5.6) is said of the modes.
+-- ---- what `write` promises: r is its step, the stream's length or the refusal, and `after` what it leaves. A refusal, of whatever it is,
+-- changes no byte. List and item may lie anywhere, so that the bound is twice the data; that no stream is longer than its data set (5.6) is
+-- said of the modes.
 
 -- what a step leaves in the output
 abbrev pub left_by : Result ℕ Answer → (stream out : List ℕ) → List ℕ
@@ -65,7 +65,6 @@ left_by (Ok length) stream out = left_in (accepted length) stream out
 left_by (Err a) stream out = out
 
 pub record WrittenAs (list d : List ℕ) (x : Extent) (item : Option Extent) (later : Result (Unit {0}) Answer) (out : List ℕ) (r : Result ℕ Answer) (after : List ℕ) : Type 0 where
-  pub answers : (a : Answer) → later ≡ test_by a → r ≡ step_by (answer list d x item a (length out))
-  pub refuses : IsErr later → IsErr r
+  pub answers : r ≡ write_step list d x item later (length out)
   pub output : after ≡ left_by r (stream_in list d x item) out
   pub short : IfOk r (λ n. n ≤ length d + length d)

@@ -7,7 +7,7 @@ use mathlib.Core.Bool.{Bool, true, false, true≢false}
 use lib.Dec.{eqb}
 use borrow.Author.Tests.{eqb-true, eqb-false, eq-eqb, ne_eqb}
 use Rattle.answer.specs.Answer.{accepted, ◌or_else◌}
-use Rattle.answer.specs.Step.{step_by, test_by, answer_by}
+use Rattle.answer.specs.Step.{step_by, test_by, ◌and_then◌, answer_by}
 use Rattle.answer.specs.declared.Answer.{Answer}
 use Rattle.answer.proofs.Laws.OrElse.{or-else-first, or-else-second}
 
@@ -90,6 +90,16 @@ test-behind a b r h e = e ∙ ap test_by (sym (or-else-second a b h))
 pub test-before : (f a b : Answer) → f ≡ a → (a.number ≡ 0 → ⊥) → Err f ≡ test_by (a or_else b)
 unfolding test_by
 test-before f a b e h = rw (or-else-first a b h, ne_eqb a.number 0 h, e)
+
+-- behind a test, the step of an answer is that of both
+pub and-then-step : (a b : Answer) → (test_by a and_then step_by b) ≡ step_by (a or_else b)
+unfolding test_by step_by ◌or_else◌
+and-then-step a b = go (eqb a.number 0) refl
+  where
+    go : (t : Bool) → eqb a.number 0 ≡ t
+        → ((if t then Ok (tt {0}) else Err a) and_then step_by b) ≡ (let c : Answer = if t then b else a in if eqb c.number 0 then Ok c.length else Err c)
+    go true e = refl
+    go false e = rw e
 
 -- ---- the answer of a step. An answer of these rules that is accepted has position 0, and so has each chain that ends in one.
 abbrev pub IsWhole : Answer → Type 0

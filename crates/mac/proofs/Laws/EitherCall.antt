@@ -21,7 +21,7 @@ use Rattle.std.specs.Prelude.{Ok, Err}
 use Rattle.dataset.specs.declared.extent.Extent.{Extent}
 use Rattle.stream.specs.Walk.{answer_from16, left_in, left_by, WrittenAs}
 use Rattle.stream.specs.Walk as walk
-use Rattle.stream.proofs.Laws.Walk.WriteMeasured.{Fits, written-fits}
+use Rattle.stream.proofs.Laws.Walk.WriteMeasured.{Fits, write-answer, written-fits}
 use Rattle.selection.specs.declared.select.Algorithm.{Algorithm}
 use Rattle.selection.specs.declared.select.Algorithm.TheVariants as algorithm
 use Rattle.mac.specs.Modes.{bad_digest_length, answer_from9}
@@ -76,13 +76,13 @@ module _ (first : Answer) (stream : List ℕ) where
     pub call-written : (of : Algorithm) (given : code.Option ℕ) (most : ℕ) (out : List ℕ) → length d + length d ≤ most → (later : code.Result (Unit {0}) Answer)
         → later ≡ test_by (length_answer of given) → (r : code.Result ℕ Answer) (ys : List ℕ) → WrittenAs l d x item later out r ys
         → CallAnswered (call_of first stream (length out)) given most out r ys
-    unfolding output_after walk.answer answer_from9
+    unfolding output_after answer_from9
     call-written of given most out k later q r ys t =
         let from16 = answer_from16 stream (length out) in
         let fits : (n : ℕ) → r ≡ Ok n → Fits (walk.stream_in l d x item) out n = written-fits l d x item later out r ys t (length_answer of given) q in
         let same : (expected : Option (List ℕ)) → length_of expected ≡ given → r ≡ step_by (first or_else answer_from9 stream (length out) expected) =
         λ expected g.
-        t.answers (length_answer of given) q ∙ ap (λ (a : Answer). step_by (a or_else length_answer of given or_else answer_from16 (walk.stream_in l d x item) (length out))) (sym e)
+        t.answers ∙ write-answer l d x item later (length_answer of given) q (length out) ∙ ap (λ (a : Answer). step_by (a or_else length_answer of given or_else answer_from16 (walk.stream_in l d x item) (length out))) (sym e)
         ∙ ap (λ (b : List ℕ). step_by (first or_else length_answer of given or_else answer_from16 b (length out))) (sym s)
         ∙ ap (λ (a : Answer). step_by (first or_else a or_else from16)) (ap (length_answer of) (sym g) ∙ sym (nine of expected)) in
         record {
