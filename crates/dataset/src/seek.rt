@@ -1,10 +1,11 @@
 // What stands under two tags of a data set.
 ghost use Rattle.std.specs.Prelude.{◌≡◌};
 ghost use Rattle.dataset.specs.Extent.{elements_in};
-ghost use Rattle.dataset.specs.Place.{Lies, SoughtIn};
+ghost use Rattle.dataset.specs.Place.{SoughtIn};
 ghost use Rattle.dataset.specs.Inner.Place.{is_there, place_by, or_here};
 
 use crate::extent::Extent;
+use crate::inside::Inside;
 use crate::reading::OneOutcome;
 use crate::{extent, reading, vr};
 use answer::Answer;
@@ -74,11 +75,11 @@ fn or_here(before: Place, tag: u32, here: u32, p: Place) -> Place
     p
 }
 
-// What stands under two tags in a data set that lies in x, in one walk over it.
-fn seek_in(d: &[u8], x: Extent, first: u32, second: u32) -> Result<Sought, Answer>
-    requires { Lies d.now x }
-    ensures { SoughtIn d.now first second (elements_in d.now x) result }
+// What stands under two tags in a data set, in one walk over it.
+fn seek_in(part: Inside, first: u32, second: u32) -> Result<Sought, Answer>
+    ensures { SoughtIn part.entry.d.now first second (elements_in part.entry.d.now part.entry.x) result }
 {
+    let Inside { d, x } = part;
     let mut at = x.from;
     let mut least: u64 = 0;
     let mut one = Place::Absent;
@@ -112,5 +113,5 @@ pub fn seek(d: &[u8], x: Extent, first: u32, second: u32) -> Result<Sought, Answ
     ensures { SoughtIn d.now first second (elements_in d.now x) result }
 {
     extent::outside_answer(d, x)?;
-    seek_in(d, x, first, second)
+    seek_in(Inside { d, x }, first, second)
 }

@@ -2,7 +2,6 @@
 ghost use Rattle.std.specs.Prelude.{◌≡◌, ◌*◌, ◌/◌, ◌≤◌, length, drop};
 ghost use Rattle.answer.specs.Answer as Spec;
 ghost use Rattle.stream.specs.TagList.{tags_in, ascending_answer};
-ghost use Rattle.dataset.specs.Place.{Lies};
 ghost use Rattle.stream.specs.Inner.Listed.{ListWalk, next_listed, wanted_behind, stopped_of, merged_of, ended_of};
 
 use crate::keep::Keep;
@@ -10,7 +9,7 @@ use crate::writer::OneWritten;
 use crate::{tag_list, writer};
 use answer::Answer;
 use answer::refusal::Refusal;
-use dataset::extent::Extent;
+use dataset::inside::Inside;
 
 // How far list and data set are merged: the index of the tag that is wanted next; and the first of 13, 14, 15, or the length of the
 // stream so far.
@@ -102,11 +101,11 @@ fn ended(list: &[u8], before: Listed) -> Result<usize, Answer>
 
 // One walk over the list and the elements of a data set: the data set's first fault, wherever it stands; or the first of 13, 14, 15;
 // or the stream, which is written, and its length.
-pub(crate) fn walk_list(list: &[u8], d: &[u8], x: Extent, out: &mut [u8]) -> Result<usize, Answer>
-    requires { (ascending_answer 0 0 (tags_in list.now) ≡ Spec.accepted 0) × Lies d.now x }
-    ensures { ListWalk list.now d.now x result out.old out.new }
+pub(crate) fn walk_list(list: &[u8], part: Inside, out: &mut [u8]) -> Result<usize, Answer>
+    requires { ascending_answer 0 0 (tags_in list.now) ≡ Spec.accepted 0 }
+    ensures { ListWalk list.now part.entry.d.now part.entry.x result out.old out.new }
 {
-    let mut at = x.from;
+    let mut at = part.x.from;
     let mut least: u64 = 0;
     let mut found = Listed {
         index: 0,
@@ -115,8 +114,7 @@ pub(crate) fn walk_list(list: &[u8], d: &[u8], x: Extent, out: &mut [u8]) -> Res
     let mut keep = next_listed(list, 0);
     loop {
         let to = found.so_far.unwrap_or(0);
-        let rest = Extent { from: at, ..x };
-        let one = writer::write_one(d, rest, least, keep, out, to)?;
+        let one = writer::write_one(&part, at, least, keep, out, to)?;
         match one {
             OneWritten::End(_) => return ended(list, found),
             OneWritten::Element {

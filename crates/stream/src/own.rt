@@ -2,14 +2,13 @@
 ghost use Rattle.std.specs.Prelude.{◌≡◌, ◌||◌, ◌+◌, ◌≤◌, length};
 ghost use Rattle.stream.specs.TagList.{barred};
 ghost use Rattle.stream.specs.Own.{named};
-ghost use Rattle.dataset.specs.Place.{Lies};
 ghost use Rattle.stream.specs.Inner.Own.{OwnWalk, own_keep};
 
 use crate::keep::Keep;
 use crate::writer::{OneWritten, Written};
 use crate::{tag_list, writer};
 use answer::Answer;
-use dataset::extent::Extent;
+use dataset::inside::Inside;
 use dataset::tags;
 
 // Whether this is one of the four tags that the signature item leaves out by name.
@@ -54,17 +53,16 @@ fn own_keep(seen: OneWritten) -> Keep
 
 // Writes the signature item's own elements, from `onto` on. Each is walked over before it is written: only then it is known whether UN
 // stands in it.
-pub(crate) fn write_own(d: &[u8], x: Extent, out: &mut [u8], onto: usize) -> Result<Written, Answer>
-    requires { Lies d.now x × (onto ≤ x.from + length d.now) }
-    ensures { OwnWalk d.now x onto result out.old out.new }
+pub(crate) fn write_own(part: Inside, out: &mut [u8], onto: usize) -> Result<Written, Answer>
+    requires { onto ≤ part.x.from + length part.d.now }
+    ensures { OwnWalk part.entry.d.now part.entry.x onto result out.old out.new }
 {
-    let mut at = x.from;
+    let mut at = part.x.from;
     let mut least: u64 = 0;
     let mut to = onto;
     loop {
-        let rest = Extent { from: at, ..x };
-        let seen = writer::write_one(d, rest, least, Keep::Nothing, &mut [], 0)?;
-        match writer::write_one(d, rest, least, own_keep(seen), out, to)? {
+        let seen = writer::write_one(&part, at, least, Keep::Nothing, &mut [], 0)?;
+        match writer::write_one(&part, at, least, own_keep(seen), out, to)? {
             OneWritten::End(next) => return Ok(Written {
                 holds_un: false,
                 next,

@@ -4,7 +4,6 @@
 ghost use Rattle.std.specs.Prelude.{◌≡◌, ◌≤◌, length};
 ghost use Rattle.answer.specs.Answer as Spec;
 ghost use Rattle.answer.specs.Step.{step_by};
-ghost use Rattle.dataset.specs.Place.{Lies};
 ghost use Rattle.stream.specs.TagList.{tags_in, ascending_answer};
 ghost use Rattle.stream.specs.Walk as spec;
 ghost use Rattle.stream.specs.Walk.{WrittenAs};
@@ -15,6 +14,7 @@ use answer::Answer;
 use answer::refusal::Refusal;
 use dataset::extent;
 use dataset::extent::Extent;
+use dataset::inside::Inside;
 
 // Writes the own elements of the signature item in x from `to` on, behind the listed ones. `to` counts the stream's bytes, of which the output
 // may have no room: where the walk measures it is empty. So a part of the output can't stand for both.
@@ -23,25 +23,24 @@ fn write_following(d: &[u8], x: Extent, out: &mut [u8], to: usize) -> Result<usi
     ensures { FollowingWalk d.now x to result out.old out.new }
 {
     extent::outside_answer(d, x)?;
-    let written = own::write_own(d, x, out, to)?;
+    let written = own::write_own(Inside { d, x }, out, to)?;
     Ok(written.to)
 }
 
-// Writes the listed elements of the data set in x, and what follows them.
+// Writes the listed elements of a data set, and what follows them.
 fn write_stream(
     list: &[u8],
-    d: &[u8],
-    x: Extent,
+    part: Inside,
     item: Option<Extent>,
     out: &mut [u8],
 ) -> Result<usize, Answer>
-    requires { (ascending_answer 0 0 (tags_in list.now) ≡ Spec.accepted 0) × Lies d.now x }
-    ensures { StreamWalk list.now d.now x item result out.old out.new }
+    requires { ascending_answer 0 0 (tags_in list.now) ≡ Spec.accepted 0 }
+    ensures { StreamWalk list.now part.entry.d.now part.entry.x item result out.old out.new }
 {
-    let to = listed::walk_list(list, d, x, out)?;
+    let to = listed::walk_list(list, part, out)?;
     match item {
         None => Ok(to),
-        Some(inside) => write_following(d, inside, out, to),
+        Some(inside) => write_following(part.d, inside, out, to),
     }
 }
 
@@ -52,7 +51,7 @@ pub fn measure(list: &[u8], d: &[u8], x: Extent, item: Option<Extent>) -> Result
 {
     tag_list::list_answer(list)?;
     extent::outside_answer(d, x)?;
-    write_stream(list, d, x, item, &mut [])
+    write_stream(list, Inside { d, x }, item, &mut [])
 }
 
 // Writes the stream that `measure` measures into the output: what measuring refuses; then what the caller refuses, `later` (9); then 16.
@@ -71,5 +70,5 @@ pub fn write(
     if out.len() < length {
         return Err(Refusal::OutputTooShort.at(0));
     }
-    write_stream(list, d, x, item, out)
+    write_stream(list, Inside { d, x }, item, out)
 }

@@ -4,7 +4,6 @@ ghost use Rattle.std.specs.Prelude.{◌≡◌, false, ◌++◌, ◌+◌, ◌<◌
 ghost use Rattle.std.proofs.lemmas.List.Edits.{sets};
 ghost use Rattle.slices.specs.Lists.{between};
 ghost use Rattle.dataset.specs.Header.{element_case};
-ghost use Rattle.dataset.specs.Place.{Lies};
 ghost use Rattle.dataset.specs.Vr.{UN};
 ghost use Rattle.stream.specs.Stream.{item_tag_bytes};
 ghost use Rattle.stream.specs.Inner.Writer.{nested_written, with_offset, HeaderAt, FragmentsWalk, ElementWalk, OneWalk, ElementsWalk, ItemsWalk};
@@ -15,6 +14,7 @@ use crate::{keep, output};
 use answer::Answer;
 use dataset::extent::{Extent, OpenedItem};
 use dataset::header::{ElementHeader, ItemHeader};
+use dataset::inside::Inside;
 use dataset::{extent, header, vr};
 
 // What is read in the place of elements, items or fragments: whether they hold UN, what follows at next in the data set, and at `to` in
@@ -98,11 +98,12 @@ fn write_fragment(d: &[u8], start: usize, end: usize, out: &mut [u8], to: usize)
     output::copy(d, start, end, out, to + 4);
 }
 
-// Writes the fragments in x, to their delimiter, and the sequence delimiter, from `onto` on.
-fn write_fragments(d: &[u8], x: Extent, out: &mut [u8], onto: usize) -> Result<Written, Answer>
-    requires { (onto + 4 ≤ x.from + length d.now) × Lies d.now x }
-    ensures { FragmentsWalk d.now x.left x.stop x.from onto result out.old out.new }
+// Writes the fragments in a part, to their delimiter, and the sequence delimiter, from `onto` on.
+fn write_fragments(part: Inside, out: &mut [u8], onto: usize) -> Result<Written, Answer>
+    requires { onto + 4 ≤ part.x.from + length part.d.now }
+    ensures { FragmentsWalk part.entry.d.now part.entry.x.left part.entry.x.stop part.entry.x.from onto result out.old out.new }
 {
+    let Inside { d, x } = part;
     let mut at = x.from;
     let mut to = onto;
     loop {
@@ -129,19 +130,19 @@ fn write_fragments(d: &[u8], x: Extent, out: &mut [u8], onto: usize) -> Result<W
     }
 }
 
-// Writes the element at x.from, whose header is h.
+// Writes the element at `at` in a part, whose header is h.
 #[cycle(write_element_write_elements_write_items_write_one)]
 fn write_element(
-    d: &[u8],
-    x: Extent,
+    part: &Inside,
+    at: usize,
     h: ElementHeader,
     out: &mut [u8],
     to: usize,
 ) -> Result<OneWritten, Answer>
-    requires { HeaderAt d.now x.left x.stop x.from (element_case (Ok h)) × (to ≤ x.from + length d.now) × Lies d.now x }
-    ensures { ElementWalk d.now x.left x.stop x.from (element_case (Ok h)) to result out.old out.new }
+    requires { HeaderAt part.now.d.now part.now.x.left part.now.x.stop at (element_case (Ok h)) × (to ≤ at + length part.now.d.now) }
+    ensures { ElementWalk part.now.d.now part.now.x.left part.now.x.stop at (element_case (Ok h)) to result out.old out.new }
 {
-    let at = x.from;
+    let Inside { d, x } = *part;
     match h {
         ElementHeader::End(next) => Ok(OneWritten::End(next)),
         ElementHeader::Value { tag, vr, end, .. } => {
@@ -161,38 +162,46 @@ fn write_element(
                 stop: end,
                 from: start,
             };
-            let items = write_items(d, inside, out, to + 8)?;
+            let items = write_items(Inside { d, x: inside }, out, to + 8)?;
             Ok(nested_written(tag, items))
         }
         ElementHeader::Fragments { tag, start } => {
             output::copy(d, at, at + 8, out, to);
-            let fragments = write_fragments(d, Extent { from: start, ..x }, out, to + 8)?;
+            let fragments = write_fragments(
+                Inside {
+                    d,
+                    x: Extent { from: start, ..x },
+                },
+                out,
+                to + 8,
+            )?;
             Ok(nested_written(tag, fragments))
         }
     }
 }
 
-// Writes what stands at x.from in an element's place, if it is kept, from `to` on; parameters as of header::header. An element that is
+// Writes what stands at `at` in an element's place, if it is kept, from `to` on; `least` as of header::header. An element that is
 // not kept is walked over all the same, for its faults and for UN inside it. Most elements are values that are not kept: these are passed
-// over with no call.
+// over with no call. `at` stands beside the part, so that none is built for each element.
 #[cycle(write_element_write_elements_write_items_write_one)]
 pub(crate) fn write_one(
-    d: &[u8],
-    x: Extent,
+    part: &Inside,
+    at: usize,
     least: u64,
     keep: Keep,
     out: &mut [u8],
     to: usize,
 ) -> Result<OneWritten, Answer>
-    requires { (to ≤ x.from + length d.now) × Lies d.now x }
-    ensures { OneWalk keep d.now x.delimited x.left x.stop x.from least to result out.old out.new }
+    requires { to ≤ at + length part.now.d.now }
+    ensures { OneWalk keep part.now.d.now part.now.x.delimited part.now.x.left part.now.x.stop at least to result out.old out.new }
 {
-    let h = header::header(d, x, least)?;
+    let rest = Extent { from: at, ..part.x };
+    let h = header::header(part.d, rest, least)?;
     if keep::keeps_header(keep, h) {
-        return write_element(d, x, h, out, to);
+        return write_element(part, at, h, out, to);
     }
     let ElementHeader::Value { tag, vr, end, .. } = h else {
-        let one = write_element(d, x, h, &mut [], 0)?;
+        let one = write_element(part, at, h, &mut [], 0)?;
         return Ok(with_offset(one, to));
     };
     Ok(value_written(tag, vr, end, to))
@@ -200,16 +209,16 @@ pub(crate) fn write_one(
 
 // Writes the elements of an item that are not barred.
 #[cycle(write_element_write_elements_write_items_write_one)]
-fn write_elements(d: &[u8], x: Extent, out: &mut [u8], onto: usize) -> Result<Written, Answer>
-    requires { (onto ≤ x.from + length d.now) × Lies d.now x }
-    ensures { ElementsWalk d.now x onto result out.old out.new }
+fn write_elements(part: Inside, out: &mut [u8], onto: usize) -> Result<Written, Answer>
+    requires { onto ≤ part.x.from + length part.d.now }
+    ensures { ElementsWalk part.entry.d.now part.entry.x onto result out.old out.new }
 {
-    let mut at = x.from;
+    let mut at = part.x.from;
     let mut least: u64 = 0;
     let mut found = false;
     let mut to = onto;
     loop {
-        match write_one(d, Extent { from: at, ..x }, least, Keep::Unbarred, out, to)? {
+        match write_one(&part, at, least, Keep::Unbarred, out, to)? {
             OneWritten::End(next) => return Ok(Written {
                 holds_un: found,
                 next,
@@ -233,10 +242,11 @@ fn write_elements(d: &[u8], x: Extent, out: &mut [u8], onto: usize) -> Result<Wr
 
 // Writes the items of a sequence, and the sequence delimiter.
 #[cycle(write_element_write_elements_write_items_write_one)]
-fn write_items(d: &[u8], x: Extent, out: &mut [u8], onto: usize) -> Result<Written, Answer>
-    requires { (0 < x.left) × (onto + 4 ≤ x.from + length d.now) × Lies d.now x }
-    ensures { ItemsWalk d.now x onto result out.old out.new }
+fn write_items(part: Inside, out: &mut [u8], onto: usize) -> Result<Written, Answer>
+    requires { (0 < part.x.left) × (onto + 4 ≤ part.x.from + length part.d.now) }
+    ensures { ItemsWalk part.entry.d.now part.entry.x onto result out.old out.new }
 {
+    let Inside { d, x } = part;
     let mut at = x.from;
     let mut found = false;
     let mut to = onto;
@@ -252,7 +262,7 @@ fn write_items(d: &[u8], x: Extent, out: &mut [u8], onto: usize) -> Result<Writt
             }
             OpenedItem::Item(inside) => {
                 output::put_item_tag(out, to);
-                let item = write_elements(d, inside, out, to + 4)?;
+                let item = write_elements(Inside { d, x: inside }, out, to + 4)?;
                 found |= item.holds_un;
                 at = item.next;
                 to = item.to;

@@ -33,8 +33,13 @@ read_items-returns-in_err-next t c =
 pub read_items-returns-in-End : goal.read_items-returns-in-End
 read_items-returns-in-End t c = let q = value-is _ _ _ c.in_ok-next.was c.in-End.is in search steps.items-end
 
+pub read_items-invariant_of-read_elements : goal.read_items-invariant_of-read_elements
+read_items-invariant_of-read_elements t c =
+    let q = value-is _ _ _ c.in_ok-next.was c.in-Item.is in
+    search steps.item-lies
+
 pub read_items-read_elements-requires : goal.read_items-read_elements-requires
-read_items-read_elements-requires t c = let q = value-is _ _ _ c.in_ok-next.was c.in-Item.is in search (steps.elements-fall, steps.item-lies, rules)
+read_items-read_elements-requires t c = let q = value-is _ _ _ c.in_ok-next.was c.in-Item.is in search (steps.elements-fall, rules)
 
 pub read_items-returns-in_err-at-in-Item : goal.read_items-returns-in_err-at-in-Item
 read_items-returns-in_err-at-in-Item t c =
@@ -54,8 +59,11 @@ read_one-returns-in_err-next t c =
     let p = err_from_is_err_and c.from_residual.result c.from_residual.ensures.1 in
     rw (p.1, p.2) (search (one.one-refused, c.in_err-next.was))
 
+pub read_one-invariant_of-read_items : goal.read_one-invariant_of-read_items
+read_one-invariant_of-read_items t c = let q = value-is _ _ _ c.in_ok-next.was c.in-Sequence.is in search (one.sequence-order, one.sequence-inside)
+
 pub read_one-read_items-requires : goal.read_one-read_items-requires
-read_one-read_items-requires t c = let q = value-is _ _ _ c.in_ok-next.was c.in-Sequence.is in search (one.sequence-level, one.sequence-order, one.sequence-inside, rules)
+read_one-read_items-requires t c = let q = value-is _ _ _ c.in_ok-next.was c.in-Sequence.is in search (one.sequence-level, rules)
 
 pub read_one-returns-in_err-next-in-Sequence : goal.read_one-returns-in_err-next-in-Sequence
 read_one-returns-in_err-next-in-Sequence t c =
@@ -67,8 +75,8 @@ read_one-returns-in_err-next-in-Sequence t c =
 pub read_one-holding-requires : goal.read_one-holding-requires
 read_one-holding-requires t c = let q = value-is _ _ _ c.in_ok-next.was c.in-Sequence.is in let w = c.in_ok-next-in-Sequence.was in search one.sequence-past
 
-pub read_one-read_fragments-requires : goal.read_one-read_fragments-requires
-read_one-read_fragments-requires t c = let q = value-is _ _ _ c.in_ok-next.was c.in-Fragments.is in search (one.parts-order, one.parts-inside)
+pub read_one-invariant_of-read_fragments : goal.read_one-invariant_of-read_fragments
+read_one-invariant_of-read_fragments t c = let q = value-is _ _ _ c.in_ok-next.was c.in-Fragments.is in search (one.parts-order, one.parts-inside)
 
 pub read_one-returns-in_err-next-in-Fragments : goal.read_one-returns-in_err-next-in-Fragments
 read_one-returns-in_err-next-in-Fragments t c =

@@ -5,10 +5,10 @@ use Rattle.dataset.proofs.Laws.Reading.Loops as steps
 use Rattle.dataset.proofs.reading.+read_elements_read_items_read_one.Given as goal
 
 abbrev pub decreases-read_elements : goal.decreases-read_elements
-decreases-read_elements l = 3 * l.x.left + 2
+decreases-read_elements l = 3 * l.part.x.left + 2
 
 abbrev pub decreases-read_items : goal.decreases-read_items
-decreases-read_items l = 3 * l.x.left
+decreases-read_items l = 3 * l.part.x.left
 
 abbrev pub decreases-read_one : goal.decreases-read_one
 decreases-read_one l = 3 * l.x.left + 1

@@ -9,5 +9,5 @@ returns-in_err-outside_answer c =
     let p = err_from_is_err_and c.from_residual.result c.from_residual.ensures.1 in
     rw (p.1, p.2) (search (steps.seek-outside, c.in_err-outside_answer.was))
 
-pub seek_in-requires : goal.seek_in-requires
-seek_in-requires c = search (inside-lies, c.in_ok-outside_answer.was)
+pub invariant_of-seek_in : goal.invariant_of-seek_in
+invariant_of-seek_in c = search (inside-lies, c.in_ok-outside_answer.was)

@@ -63,6 +63,9 @@ holding-walk unknown stream d tag bytes (read a n) k make m h to past xs ys zs o
 pub header-fits : (at to n : ℕ) → at + 8 ≤ n → to ≤ at + n → n * 1 < 2 ^ 63 → Fits w64 (to + 8)
 header-fits at to n h b m = record { fits = omega arith }
 
+pub header-within : (at n : ℕ) → at + 8 ≤ n → n * 1 < 2 ^ 63 → Fits w64 (at + 8)
+header-within at n h m = record { fits = omega arith }
+
 module _ (d : List ℕ) (left stop at : ℕ) (h : ElementHeader) where
   by : (p : ElementHeader) → h ≡ p → by_header_at d left stop at (element_case (Ok h)) ≡ by_header (λ inner. items_at explicit d inner left) (fragments_at explicit d left stop) at (element_case (Ok p))
   unfolding by_header_at

@@ -4,7 +4,7 @@ use Rattle.stream.proofs.Laws.Listed.WalkListLoop as steps
 use Rattle.stream.proofs.listed.walk_list.Given as goal
 
 abbrev pub invariant-loop-one : goal.invariant-loop-one
-invariant-loop-one l = steps.ListLoop l.list l.d l.x l.initial.out l.out l.at l.least l.found l.keep
+invariant-loop-one l = steps.ListLoop l.list l.part.d.now l.part.x l.initial.out l.out l.at l.least l.found l.keep
 
 abbrev pub decreases-loop-one : goal.decreases-loop-one
-decreases-loop-one l = l.x.stop - l.at
+decreases-loop-one l = l.part.x.stop - l.at

@@ -16,8 +16,11 @@ pub returns-in_err-outside_answer : goal.returns-in_err-outside_answer
 unfolding measure answer_to15 read_answer ◌or_else◌ step_by test_by
 returns-in_err-outside_answer c = grind (arith, outside-fault)
 
+pub invariant_of-write_stream : goal.invariant_of-write_stream
+invariant_of-write_stream c = search (inside-lies, c.in_ok-outside_answer.was)
+
 pub write_stream-requires : goal.write_stream-requires
-write_stream-requires c = (search (steps.passed-ascends, c.in_ok-list_answer.was), search (inside-lies, c.in_ok-outside_answer.was))
+write_stream-requires c = search (steps.passed-ascends, c.in_ok-list_answer.was)
 
 pub returns : goal.returns
 unfolding measure answer_to15 walk_answer stream_in ◌or_else◌ step_by test_by

@@ -9,8 +9,11 @@ pub returns-in_err-outside_answer : goal.returns-in_err-outside_answer
 returns-in_err-outside_answer c =
     let p = err_from_is_err_and c.from_residual.result c.from_residual.ensures.1 in rw (p.1, p.2) (search (steps.follows-outside, c.in_err-outside_answer.was))
 
+pub invariant_of-write_own : goal.invariant_of-write_own
+invariant_of-write_own c = search (inside-lies, c.in_ok-outside_answer.was)
+
 pub write_own-requires : goal.write_own-requires
-write_own-requires c = (search (inside-lies, c.in_ok-outside_answer.was), search rules)
+write_own-requires c = search rules
 
 pub returns-in_err-written : goal.returns-in_err-written
 returns-in_err-written c =

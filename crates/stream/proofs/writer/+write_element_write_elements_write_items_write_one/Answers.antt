@@ -15,14 +15,23 @@ write_element-overflow_sub-end t c = search element.value-order
 pub write_element-overflow_add-to : goal.write_element-overflow_add-to
 write_element-overflow_add-to t c = search element.value-fits
 
+pub write_element-overflow_add-at : goal.write_element-overflow_add-at
+write_element-overflow_add-at t c = search (element.header-within, element.sequence-header)
+
 pub write_element-copy-requires-in-Sequence : goal.write_element-copy-requires-in-Sequence
 write_element-copy-requires-in-Sequence t c = (search rules, search element.sequence-header)
 
 pub write_element-overflow_add-to-in-Sequence : goal.write_element-overflow_add-to-in-Sequence
 write_element-overflow_add-to-in-Sequence t c = search (element.header-fits, element.sequence-header)
 
+pub write_element-invariant_of-write_items : goal.write_element-invariant_of-write_items
+write_element-invariant_of-write_items t c = search element.sequence-lies
+
 pub write_element-write_items-requires : goal.write_element-write_items-requires
-write_element-write_items-requires t c = search (element.sequence-level, element.sequence-room, element.sequence-lies, rules)
+write_element-write_items-requires t c = search (element.sequence-level, element.sequence-room, rules)
+
+pub write_element-overflow_add-at-in-Fragments : goal.write_element-overflow_add-at-in-Fragments
+write_element-overflow_add-at-in-Fragments t c = search (element.header-within, element.parts-header)
 
 pub write_element-copy-requires-in-Fragments : goal.write_element-copy-requires-in-Fragments
 write_element-copy-requires-in-Fragments t c = (search rules, search element.parts-header)
@@ -30,8 +39,11 @@ write_element-copy-requires-in-Fragments t c = (search rules, search element.par
 pub write_element-overflow_add-to-in-Fragments : goal.write_element-overflow_add-to-in-Fragments
 write_element-overflow_add-to-in-Fragments t c = search (element.header-fits, element.parts-header)
 
+pub write_element-invariant_of-write_fragments : goal.write_element-invariant_of-write_fragments
+write_element-invariant_of-write_fragments t c = search element.parts-lies
+
 pub write_element-write_fragments-requires : goal.write_element-write_fragments-requires
-write_element-write_fragments-requires t c = search (element.parts-room, element.parts-lies, rules)
+write_element-write_fragments-requires t c = search (element.parts-room, rules)
 
 pub write_element-returns-in-End : goal.write_element-returns-in-End
 write_element-returns-in-End t c = search element.element-end
@@ -87,8 +99,11 @@ write_items-returns-in_err-next t c =
 pub write_items-returns-in-End : goal.write_items-returns-in-End
 write_items-returns-in-End t c = let e = c.in_ok-next.ensures in search items.loop-end
 
+pub write_items-invariant_of-write_elements : goal.write_items-invariant_of-write_elements
+write_items-invariant_of-write_elements t c = let e = c.in_ok-next.ensures in search items.inside-lies
+
 pub write_items-write_elements-requires : goal.write_items-write_elements-requires
-write_items-write_elements-requires t c = let e = c.in_ok-next.ensures in search (items.inside_falls, items.inside_room, items.inside-lies, rules)
+write_items-write_elements-requires t c = let e = c.in_ok-next.ensures in search (items.inside_falls, items.inside_room, rules)
 
 pub write_items-returns-in_err-item-in-Item : goal.write_items-returns-in_err-item-in-Item
 write_items-returns-in_err-item-in-Item t c =
