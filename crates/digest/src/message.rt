@@ -2,7 +2,7 @@
 ghost use Rattle.std.specs.Prelude.{◌≡◌};
 ghost use Rattle.digest.specs.Sha256 as Sha256;
 ghost use Rattle.digest.specs.Message as Message;
-ghost use Rattle.digest.specs.Inner.Steps.{hashing_step};
+ghost use Rattle.digest.specs.Inner.Steps.{hashing_step, hashed_by};
 
 use crate::running::Running;
 use answer::Answer;
@@ -12,6 +12,24 @@ use answer::Answer;
 pub struct Hashed {
     pub answer: Answer,
     pub digest: [u8; 32],
+}
+
+// The answer and the digest of a step: a refusal has 32 zero bytes.
+impl From<Result<[u8; 32], Answer>> for Hashed {
+    ghost from_gives = { λ r h. h ≡ hashed_by Sha256.sha256 r };
+
+    fn from(step: Result<[u8; 32], Answer>) -> Self {
+        match step {
+            Ok(digest) => Self {
+                answer: Answer::accepted(0),
+                digest,
+            },
+            Err(answer) => Self {
+                answer,
+                digest: [0u8; 32],
+            },
+        }
+    }
 }
 
 // The digest of a whole message, or 25.
@@ -25,14 +43,5 @@ fn digest_of(message: &[u8]) -> Result<[u8; 32], Answer>
 pub fn sha256(message: &[u8]) -> Hashed
     ensures { result ≡ Message.hashing Sha256.sha256 message.now }
 {
-    match digest_of(message) {
-        Ok(digest) => Hashed {
-            answer: Answer::accepted(0),
-            digest,
-        },
-        Err(answer) => Hashed {
-            answer,
-            digest: [0u8; 32],
-        },
-    }
+    Hashed::from(digest_of(message))
 }

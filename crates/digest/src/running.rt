@@ -6,6 +6,7 @@ ghost use Rattle.digest.specs.Running as Spec;
 ghost use Rattle.digest.specs.Inner.Ready.{Ready};
 ghost use Rattle.digest.specs.Inner.Steps.{feeding_step, finishing_step};
 
+use crate::message::Hashed;
 use crate::{bytes, padding, sha256};
 use answer::Answer;
 use answer::refusal::Refusal;
@@ -159,17 +160,11 @@ impl Running {
     pub fn finish(self) -> Finished
         ensures { result ≡ Spec.finishing Sha256.sha256 self }
     {
-        match self.digest() {
-            Ok(digest) => Finished {
-                answer: Answer::accepted(0),
-                digest,
-                running: self,
-            },
-            Err(answer) => Finished {
-                answer,
-                digest: [0u8; 32],
-                running: self,
-            },
+        let Hashed { answer, digest } = Hashed::from(self.digest());
+        Finished {
+            answer,
+            digest,
+            running: self,
         }
     }
 }

@@ -4,7 +4,7 @@ use Rattle.std.proofs.Common.{◌≡◌, ℕ, Bool, true, false, Result, Ok, Err
 use Rattle.answer.specs.Answer.{accepted, refused}
 use Rattle.digest.specs.Message.{Algorithm, digest_of, limit, hashing}
 use Rattle.digest.specs.Running.{accepts, fed, finished, feeding, finishing}
-use Rattle.digest.specs.Inner.Steps.{feeding_step, finishing_step, hashing_step}
+use Rattle.digest.specs.Inner.Steps.{feeding_step, finishing_step, hashing_step, hashed_by}
 use Rattle.digest.specs.declared.running.Running.{Running}
 use Rattle.digest.specs.declared.running.Fed.{Fed}
 use Rattle.digest.specs.declared.running.Finished.{Finished}
@@ -39,13 +39,8 @@ abbrev pub fed_by : Running → Result Running Answer → Fed
 fed_by s (Ok next) = record { answer = accepted 0; running = next }
 fed_by s (Err a) = record { answer = a; running = s }
 
-abbrev pub finished_by : Algorithm → Running → Result (List ℕ) Answer → Finished
-finished_by a s (Ok digest) = record { answer = accepted 0; digest = digest; running = s }
-finished_by a s (Err e) = record { answer = e; digest = replicate a.size 0; running = s }
-
-abbrev pub hashed_by : Algorithm → Result (List ℕ) Answer → Hashed
-hashed_by a (Ok digest) = record { answer = accepted 0; digest = digest }
-hashed_by a (Err e) = record { answer = e; digest = replicate a.size 0 }
+abbrev pub finished_by : Running → Hashed → Finished
+finished_by s h = record { answer = h.answer; digest = h.digest; running = s }
 
 -- a function of a choice is the choice of its values
 of-choice : {A B : Type 0} (f : A → B) (b : Bool) (x y : A) → f (if b then x else y) ≡ (if b then f x else f y)
@@ -57,9 +52,9 @@ module _ (a : Algorithm) where
   unfolding feeding feeding_step
   feeding-by s m = of-choice (fed_by s) (accepts s (length m)) (Ok (fed a s m)) (Err (refused 25 0))
 
-  pub finishing-by : (s : Running) → finished_by a s (finishing_step a s) ≡ finishing a s
+  pub finishing-by : (s : Running) → finished_by s (hashed_by a (finishing_step a s)) ≡ finishing a s
   unfolding finishing finishing_step
-  finishing-by s = of-choice (finished_by a s) (accepts s 0) (Ok (finished a s)) (Err (refused 25 0))
+  finishing-by s = of-choice (λ r. finished_by s (hashed_by a r)) (accepts s 0) (Ok (finished a s)) (Err (refused 25 0))
 
   pub hashing-by : (m : List ℕ) → hashed_by a (hashing_step a m) ≡ hashing a m
   unfolding hashing hashing_step
