@@ -1,5 +1,5 @@
 // Text of the stream program, written into a lent buffer.
-ghost use Rattle.std.specs.Prelude.{◌≡◌, ◌||◌, ◌++◌, ◌+◌, ◌^◌, ◌%◌, ◌<◌, ◌≤◌, length, eqb};
+ghost use Rattle.std.specs.Prelude.{◌≡◌, ◌++◌, ◌^◌, ◌<◌, ◌≤◌, ◌∷◌, [], flat_map, length};
 ghost use Rattle.mac_frame.specs.Text as Spec;
 ghost use Rattle.mac_frame.specs.Inner.Puts.{Puts};
 
@@ -11,22 +11,6 @@ use itoa::Buffer;
 pub(crate) struct Text<'a> {
     pub(crate) room: &'a mut [u8],
     pub(crate) size: usize,
-}
-
-// A digit in decimal or in lower-case hex.
-fn digit(n: u8) -> u8
-    requires { n < 16 }
-    ensures { result ≡ Spec.digit n }
-{
-    if n < 10 { b'0' + n } else { b'a' - 10 + n }
-}
-
-// Whether byte i of n ends its line: the 32nd of the line, or the last.
-fn ends_line(i: usize, n: usize) -> bool
-    requires { i < n }
-    ensures { result ≡ (eqb (i % 32) 31 || eqb (i + 1) n) }
-{
-    i % 32 == 31 || i + 1 == n
 }
 
 impl<'a> Text<'a> {
@@ -63,24 +47,24 @@ impl<'a> Text<'a> {
         self.put_decimal_then(answer.length as u64, b'\n');
     }
 
-    // A byte in hex, and the line's end where it ends the line. (`write!` promises what it writes only where it gives Ok, and no clause
-    // says that it does.)
-    fn put_hex(&mut self, b: u8, ends: bool)
-        requires { self.old.size < 2 ^ 61 }
-        ensures { Puts self.old (Spec.hex b ++ Spec.line_end ends) self.new }
+    // A line: bytes in hex, and its end. (`write!` promises what it writes only where it gives Ok, and no clause says that it does.)
+    fn put_hex_line(&mut self, bytes: &[u8])
+        requires { (self.old.size < 2 ^ 61) × (length bytes.now ≤ 32) }
+        ensures { Puts self.old (flat_map Spec.hex bytes.now ++ (Spec.newline ∷ [])) self.new }
     {
-        self.put(&[digit(b / 16), digit(b % 16)]);
-        if ends {
-            self.put(b"\n");
-        }
+        let mut room = [0u8; 64];
+        let digits = &mut room[..2 * bytes.len()];
+        let _ = hex::encode_to_slice(bytes, &mut *digits);
+        self.put(digits);
+        self.put(b"\n");
     }
 
     pub(crate) fn put_lines(&mut self, bytes: &[u8])
         requires { (self.old.size < 2 ^ 60) × (length bytes.now ≤ 2 ^ 32) }
         ensures { Puts self.old (Spec.hex_lines bytes.now) self.new }
     {
-        for (i, b) in bytes.iter().enumerate() {
-            self.put_hex(*b, ends_line(i, bytes.len()));
+        for line in bytes.chunks(32) {
+            self.put_hex_line(line);
         }
     }
 }
