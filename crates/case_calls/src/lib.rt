@@ -5,8 +5,8 @@
 // calls          list mode and signature mode
 // reading_kinds  the reading and the lookup
 // frame_kind     the stream program
-// print          bytes and numbers
+// print          bytes in hex
 pub mod calls;
 pub mod frame_kind;
-pub mod print;
+mod print;
 pub mod reading_kinds;

@@ -53,7 +53,8 @@ pub(crate) struct Call<'a> {
     wanted: Wanted<'a>,
 }
 
-// Of which mode a call is.
+// Of which mode a call is. (With list_of or signature_of itself as a parameter, each of the three functions below would have a bound
+// F: Fn(&[u8], &'a mut [u8]) -> .. and a clause F.IsAlwaysCallable: no plainer.)
 #[derive(Clone, Copy)]
 enum Named {
     List,
@@ -68,7 +69,7 @@ fn list_of<'a>(args: &[u8], room: &'a mut [u8]) -> Option<(Mode<'a>, &'a [u8])> 
     Some((Mode::List { list }, d))
 }
 
-// WHICH: a number in decimal, or none.
+// WHICH: a number in decimal, or none. The outer None is a field that is not understood, the inner one says that none is named.
 fn which_of(field: &[u8]) -> Option<Option<u64>> {
     match field {
         b"none" => Some(None),

@@ -38,6 +38,7 @@ impl<'a> Text<'a> {
         self.put(&[end]);
     }
 
+    // The first line. (`write!` promises what it writes only where it gives Ok, and no clause says that it does.)
     pub(crate) fn put_line(&mut self, answer: Answer)
         requires { self.old.size < 2 ^ 60 }
         ensures { Puts self.old (Spec.line answer) self.new }
@@ -47,18 +48,19 @@ impl<'a> Text<'a> {
         self.put_decimal_then(answer.length as u64, b'\n');
     }
 
-    // A line: bytes in hex, and its end. (`write!` promises what it writes only where it gives Ok, and no clause says that it does.)
+    // A line: bytes in hex, and its end. (Two digits a byte is what encode_to_slice asks for, so that it writes them.)
     fn put_hex_line(&mut self, bytes: &[u8])
         requires { (self.old.size < 2 ^ 61) × (length bytes.now ≤ 32) }
         ensures { Puts self.old (flat_map Spec.hex bytes.now ++ (Spec.newline ∷ [])) self.new }
     {
         let mut room = [0u8; 64];
         let digits = &mut room[..2 * bytes.len()];
-        let _ = hex::encode_to_slice(bytes, &mut *digits);
+        let _ = hex::encode_to_slice(bytes, digits);
         self.put(digits);
         self.put(b"\n");
     }
 
+    // The lines of hex, each of 32 bytes, but for the last.
     pub(crate) fn put_lines(&mut self, bytes: &[u8])
         requires { (self.old.size < 2 ^ 60) × (length bytes.now ≤ 2 ^ 32) }
         ensures { Puts self.old (Spec.hex_lines bytes.now) self.new }

@@ -43,9 +43,9 @@ pub on-ok : {T E P : Type 0} (r : Result T E) → IsOk r → OnOk r P → P
 on-ok (Ok x) h p = p
 on-ok (Err e) h p = cc h
 
-pub line-puts : (t m u : Text) (xs written : List ℕ) → IsBytes xs → written ≡ encode_lower xs → Puts t written m → Puts m (newline ∷ []) u
+pub hex-line-puts : (t m u : Text) (xs written : List ℕ) → IsBytes xs → written ≡ encode_lower xs → Puts t written m → Puts m (newline ∷ []) u
     → Puts t (flat_map hex xs ++ (newline ∷ [])) u
-line-puts t m u xs written h e p q = puts_then t m u (flat_map hex xs) (newline ∷ []) (rw (e ∙ encoded-hex xs h) at p) q
+hex-line-puts t m u xs written h e p q = puts_then t m u (flat_map hex xs) (newline ∷ []) (rw (e ∙ encoded-hex xs h) at p) q
 
 -- ---- the first line of the text
 last-end : (x : Bool) → line_end (x || true) ≡ newline ∷ []
@@ -97,7 +97,7 @@ pub lines-start : (bytes rest : List ℕ) (t : Text) → rest ≡ bytes → Line
 lines-start bytes rest t e =
     record {
       done = [];
-      puts = record { same_room = refl; size = sym (add-zero t.size); wrote = refl; };
+      puts = record { same_room = refl; size = sym (add-zero t.size); wrote = refl };
       parts = ap hex_lines e;
       near = rw e (omega arith);
     }
