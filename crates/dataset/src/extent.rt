@@ -8,7 +8,8 @@ use crate::{header, reading};
 use answer::Answer;
 use answer::refusal::Refusal;
 
-// From `from` up to `stop`, or to a delimiter before it (`delimited`); `left` levels of sequences may follow (above 16 as 16).
+// From `from` up to `stop`, or to a delimiter before it (`delimited`); `left` levels of sequences may follow (above 16 as 16). An extent may
+// lie anywhere, and each public function answers each (docs/DECISIONS.md, R11); `Inside` is one that lies in the data.
 #[derive(Clone, Copy, Debug, PartialEq, Eq)]
 pub struct Extent {
     pub delimited: bool,
@@ -38,17 +39,17 @@ pub fn whole(size: usize) -> Extent
     }
 }
 
-// 2, where an extent does not lie inside the data. Whoever walks over a data set in an extent that a caller gives asks this first.
+// Nothing, or 2 where an extent does not lie inside the data. Whoever walks over a data set in an extent that a caller gives asks this first.
 pub fn outside_answer(d: &[u8], x: Extent) -> Result<(), Answer>
     ensures { result ≡ test_by (outside_answer d.now x) }
 {
-    if header::is_outside(d, x.stop, x.from) {
+    if header::is_outside(d, x) {
         return Err(Refusal::TooFewBytes.at(x.from));
     }
     Ok(())
 }
 
-// What stands at `at` in an item's place, among items that lie in x; or the first fault.
+// What stands at `at` in an item's place, among items that lie in x; or the first fault. From item to item `at` moves on, and x stays.
 pub fn open_item(d: &[u8], x: Extent, at: usize) -> Result<OpenedItem, Answer>
     ensures { opened_case result ≡ opened_item d.now x at }
 {

@@ -70,7 +70,7 @@ fn defined_by(tag: u32, vr: u16, start: usize, end: usize) -> ElementHeader
     }
 }
 
-// A sequence of undefined length, or fragments.
+// A sequence of undefined length, or fragments. Of the extent its end alone counts.
 fn undefined_by(tag: u32, vr: u16, stop: usize, start: usize) -> ElementHeader
     ensures { element_case (Ok result) ≡ undefined_by tag vr stop start }
 {
@@ -122,11 +122,11 @@ fn value_by(tag: u32, vr: u16, x: Extent, start: usize, len: usize) -> Result<El
     Ok(defined_by(tag, vr, start, start + len))
 }
 
-// Whether the extent does not lie inside the data, or ends before `at`.
-pub(crate) fn is_outside(d: &[u8], stop: usize, at: usize) -> bool
-    ensures { result ≡ outside d.now stop at }
+// Whether the extent does not lie inside the data, or ends before it starts.
+pub(crate) fn is_outside(d: &[u8], x: Extent) -> bool
+    ensures { result ≡ outside d.now x.stop x.from }
 {
-    (d.len() < stop) | (stop < at)
+    (d.len() < x.stop) | (x.stop < x.from)
 }
 
 // Whether an extent of defined length ends where it starts.
@@ -187,7 +187,7 @@ pub fn header(d: &[u8], x: Extent, least: u64) -> Result<ElementHeader, Answer>
     ensures { element_case result ≡ element_at d.now x.delimited x.left x.stop x.from least }
 {
     let at = x.from;
-    if is_outside(d, x.stop, at) {
+    if is_outside(d, x) {
         return Err(Refusal::TooFewBytes.at(at));
     }
     if ends_at(x) {
@@ -244,7 +244,7 @@ pub fn item_header(d: &[u8], in_sequence: bool, x: Extent) -> Result<ItemHeader,
     ensures { item_case result ≡ item_at d.now in_sequence x.delimited x.stop x.from }
 {
     let at = x.from;
-    if is_outside(d, x.stop, at) {
+    if is_outside(d, x) {
         return Err(Refusal::TooFewBytes.at(at));
     }
     if ends_at(x) {

@@ -18,7 +18,7 @@ pub struct Found {
     pub length: usize,
 }
 
-// The same with the value as a part of the data set.
+// The same with the value as a part of the data set. An absent one is the empty part at its end (`Lookup`), so that it is no Option either.
 #[derive(Clone, Copy, Debug)]
 pub struct FoundPart<'a> {
     pub answer: Answer,

@@ -1,5 +1,7 @@
 // The reading of a data set: the first fault from the left, or none. Each header is read once and each offset is passed once,
-// so that the cost is linear in the bytes: a reader goes on from where the reader below it stopped.
+// so that the cost is linear in the bytes: a reader goes on from where the reader below it stopped. So the loops here, and those that walk
+// over elements or items elsewhere, set their offset by hand: an iterator would hand out `Result`s and keep the offset past the end, which
+// is what a reader gives back.
 ghost use Rattle.std.specs.Prelude.{◌≡◌, ◌<◌, ◌≤◌};
 ghost use Rattle.answer.specs.Step.{test_by};
 ghost use Rattle.dataset.specs.Reading.{explicit, fragments_at, one_at, handed_on, one_case, answer_of, size_answer, data_set};
@@ -106,9 +108,9 @@ pub fn read_one(d: &[u8], x: Extent, least: u64) -> Result<OneOutcome, Answer>
         } => {
             let inside = Extent {
                 delimited,
-                left: x.left,
                 stop: end,
                 from: start,
+                ..x
             };
             let next = read_items(Inside { d, x: inside })?;
             Ok(holding(tag, vr::SQ, start, delimited, next))
@@ -158,7 +160,7 @@ fn read_items(part: Inside) -> Result<usize, Answer>
     }
 }
 
-// 1: whether a data set is larger than it may be.
+// Nothing, or 1 where a data set is larger than it may be.
 pub fn size_answer(d: &[u8]) -> Result<(), Answer>
     ensures { result ≡ test_by (size_answer d.now) }
 {
@@ -179,7 +181,7 @@ fn read_whole(d: &[u8]) -> Result<usize, Answer>
     })
 }
 
-// Reads a data set: its first fault from the left, or number 0.
+// Reads a data set: its first fault from the left, or number 0; an `Answer`, as README has it.
 pub fn read(d: &[u8]) -> Answer
     ensures { result ≡ answer_of (data_set d.now) }
 {

@@ -14,7 +14,7 @@ use answer::Answer;
 #[derive(Clone, Copy, Debug, PartialEq, Eq)]
 pub enum Place {
     Absent,
-    // a value that is not looked into, from start to end
+    // a value that is not looked into, from start to end: offsets, as the definitions of a place have them
     Value { vr: u16, start: usize, end: usize },
     // a sequence, by the extent of its items
     Items(Extent),

@@ -1,4 +1,5 @@
-// The tags that the rules decide by, by their names in the data dictionary, ascending.
+// The tags that the rules decide by, by their names in the data dictionary, ascending. A tag is a number: any may stand in a data set, in a list
+// and in what C asks, and they are compared.
 
 pub const LENGTH_TO_END: u32 = 0x00080001;
 

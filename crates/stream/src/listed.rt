@@ -11,15 +11,16 @@ use answer::Answer;
 use answer::refusal::Refusal;
 use dataset::inside::Inside;
 
-// How far list and data set are merged: the index of the tag that is wanted next; and the first of 13, 14, 15, or the length of the
-// stream so far.
+// How far list and data set are merged: the index of the tag that is wanted next, which is the position of 13, 14 and 15; and the first of
+// these, or the length of the stream so far.
 #[derive(Clone, Copy, Debug, PartialEq, Eq)]
 pub(crate) struct Listed {
     pub index: usize,
     pub so_far: Result<usize, Answer>,
 }
 
-// An element that the walk has passed: its tag, whether it is UN, whether it holds UN, and where its stream ends.
+// An element that the walk has passed: its tag, whether it is UN, whether it holds UN, and where its stream ends. What follows it in the data
+// set, as in `OneWritten`, is no matter of the merge.
 #[derive(Clone, Copy, Debug, PartialEq, Eq)]
 pub(crate) struct Passed {
     pub tag: u32,

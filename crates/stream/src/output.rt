@@ -1,5 +1,5 @@
 // Bytes into the output, at an offset of the stream. What does not fit is not written; where a walk measures, the output is empty. So the offset
-// stands beside the output: a part of the output can't stand for both.
+// stands beside the output, here and in all that writes: a part of the output can't stand for both.
 ghost use Rattle.std.specs.Prelude.{◌≡◌, ◌≤◌, length};
 ghost use Rattle.std.proofs.lemmas.List.Edits.{sets};
 ghost use Rattle.slices.specs.Lists.{between};
@@ -11,7 +11,7 @@ const ITEM_TAG: [u8; 4] = [0xFE, 0xFF, 0x00, 0xE0];
 // A sequence delimiter's tag, (FFFE,E0DD), as it is coded.
 const SEQUENCE_DELIMITER: [u8; 4] = [0xFE, 0xFF, 0xDD, 0xE0];
 
-// Copies the bytes of d from `from` up to `end` to the output, from `to` on.
+// Copies the bytes of d from `from` up to `end` to the output, from `to` on. (Offsets: `between` is the word of the contracts that it is for.)
 pub(crate) fn copy(d: &[u8], from: usize, end: usize, out: &mut [u8], to: usize)
     requires { (from ≤ end) × (end ≤ length d.now) }
     ensures { out.new ≡ sets out.old to (between d.now from end) }
@@ -19,7 +19,7 @@ pub(crate) fn copy(d: &[u8], from: usize, end: usize, out: &mut [u8], to: usize)
     slices::copy(&d[from..end], out, to);
 }
 
-// Puts an item's tag.
+// Puts an item's tag. (This and the next put a constant each, that of their definition.)
 pub(crate) fn put_item_tag(out: &mut [u8], to: usize)
     ensures { out.new ≡ sets out.old to item_tag_bytes }
 {

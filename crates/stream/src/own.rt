@@ -52,7 +52,7 @@ fn own_keep(seen: OneWritten) -> Keep
 }
 
 // Writes the signature item's own elements, from `onto` on. Each is walked over before it is written: only then it is known whether UN
-// stands in it.
+// stands in it, and no UN stands in what is written.
 pub(crate) fn write_own(part: Inside, out: &mut [u8], onto: usize) -> Result<Written, Answer>
     requires { onto ≤ part.x.from + length part.d.now }
     ensures { OwnWalk part.entry.d.now part.entry.x onto result out.old out.new }

@@ -8,7 +8,7 @@ use answer::Answer;
 use answer::refusal::Refusal;
 use dataset::{bytes, tags};
 
-// The tag at an index of the list.
+// The tag at an index of the list: by `tag_in`, so that the coding of a tag is said once.
 #[tactic(auto, unfolding(dataset::specs::Bytes::tag_in))]
 pub(crate) fn tag_at(list: &[u8], index: usize) -> u32
     requires { 4 * index + 4 ≤ length list.now }

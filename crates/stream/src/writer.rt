@@ -158,9 +158,9 @@ fn write_element(
             output::copy(d, at, at + 8, out, to);
             let inside = Extent {
                 delimited,
-                left: x.left,
                 stop: end,
                 from: start,
+                ..x
             };
             let items = write_items(Inside { d, x: inside }, out, to + 8)?;
             Ok(nested_written(tag, items))
