@@ -2,6 +2,7 @@
 ghost use Rattle.std.specs.Prelude.{◌≡◌, ◌+◌, ◌≤◌, length};
 ghost use Rattle.dataset.specs.Header.{element_case, item_case, outside, bad_length, too_deep, undefined_by, defined_by, value_by, long_at, vr_on_at, ends_at, closed_by, element_at, item_by, item_at};
 ghost use Rattle.dataset.specs.Place.{Lies};
+ghost use Rattle.dataset.specs.Inner.Header.{end_at};
 
 use crate::extent::Extent;
 use crate::vr::Form;
@@ -147,6 +148,27 @@ fn closed_by(d: &[u8], delimiter: u32, x: Extent) -> bool
     (bytes::tag_at(d, x.from) == delimiter) & (bytes::number32(d, x.from + 4) == 0)
 }
 
+// The checks that come first in every place, at x.from: 2 outside the data; the end of an extent of defined length; 2 where fewer than 8
+// bytes are left; the delimiter that is due. The offset of what follows the end, or None where nothing ends here.
+fn end_at(d: &[u8], delimiter: u32, x: Extent) -> Result<Option<usize>, Answer>
+    ensures { result ≡ end_at d.now delimiter x.delimited x.stop x.from }
+{
+    let at = x.from;
+    if is_outside(d, x) {
+        return Err(Refusal::TooFewBytes.at(at));
+    }
+    if ends_at(x) {
+        return Ok(Some(at));
+    }
+    if x.stop - at < 8 {
+        return Err(Refusal::TooFewBytes.at(at));
+    }
+    if closed_by(d, delimiter, x) {
+        return Ok(Some(at + 8));
+    }
+    Ok(None)
+}
+
 // The checks at an element of the long form, from its second test of the bytes left on.
 fn long_form(d: &[u8], tag: u32, vr: u16, x: Extent) -> Result<ElementHeader, Answer>
     requires { Lies d.now x }
@@ -186,19 +208,10 @@ fn vr_on(d: &[u8], tag: u32, x: Extent) -> Result<ElementHeader, Answer>
 pub fn header(d: &[u8], x: Extent, least: u64) -> Result<ElementHeader, Answer>
     ensures { element_case result ≡ element_at d.now x.delimited x.left x.stop x.from least }
 {
+    if let Some(next) = end_at(d, tags::ITEM_DELIMITATION_ITEM, x)? {
+        return Ok(ElementHeader::End(next));
+    }
     let at = x.from;
-    if is_outside(d, x) {
-        return Err(Refusal::TooFewBytes.at(at));
-    }
-    if ends_at(x) {
-        return Ok(ElementHeader::End(at));
-    }
-    if x.stop - at < 8 {
-        return Err(Refusal::TooFewBytes.at(at));
-    }
-    if closed_by(d, tags::ITEM_DELIMITATION_ITEM, x) {
-        return Ok(ElementHeader::End(at + 8));
-    }
     if bytes::number16(d, at) == 0xFFFE {
         return Err(Refusal::MisplacedTag.at(at));
     }
@@ -238,24 +251,14 @@ fn item_by(in_sequence: bool, x: Extent, start: usize, len: usize) -> Result<Ite
 }
 
 // What stands at x.from in the place of an item of a sequence (`in_sequence`) or of a fragment, where the rest of these lies in x; or a
-// refusal. A stop past the data, or a start past stop, is 2. (Its first checks are those of `header`. Both stand whole, beside their
-// definitions: split off, the checks would be read out of their written order.)
+// refusal. A stop past the data, or a start past stop, is 2.
 pub fn item_header(d: &[u8], in_sequence: bool, x: Extent) -> Result<ItemHeader, Answer>
     ensures { item_case result ≡ item_at d.now in_sequence x.delimited x.stop x.from }
 {
+    if let Some(next) = end_at(d, tags::SEQUENCE_DELIMITATION_ITEM, x)? {
+        return Ok(ItemHeader::End(next));
+    }
     let at = x.from;
-    if is_outside(d, x) {
-        return Err(Refusal::TooFewBytes.at(at));
-    }
-    if ends_at(x) {
-        return Ok(ItemHeader::End(at));
-    }
-    if x.stop - at < 8 {
-        return Err(Refusal::TooFewBytes.at(at));
-    }
-    if closed_by(d, tags::SEQUENCE_DELIMITATION_ITEM, x) {
-        return Ok(ItemHeader::End(at + 8));
-    }
     if bytes::tag_at(d, at) != tags::ITEM {
         return Err(Refusal::MisplacedTag.at(at));
     }

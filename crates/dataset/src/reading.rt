@@ -29,7 +29,7 @@ pub fn deeper(left: u32) -> u32
     left.min(LEVELS).saturating_sub(1)
 }
 
-// What is read in an element's place.
+// What is read in an element's place. The fields stand in the variant: who asks takes those that it needs.
 #[derive(Clone, Copy, Debug, PartialEq, Eq)]
 pub enum OneOutcome {
     // the data set ends here; what follows it is at this offset

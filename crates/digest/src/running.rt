@@ -145,7 +145,7 @@ impl Running {
         bytes::word_bytes(&sha256::after_blocks(self.words, &end[..n]))
     }
 
-    // The digest of all bytes so far, or 25 where it is not possible.
+    // The digest of all bytes so far, or 25 where it is not possible. (As `after`, by the one test; a function of the two would be no shorter.)
     pub(crate) fn digest(&self) -> Result<[u8; 32], Answer>
         ensures { result ≡ finishing_step Sha256.sha256 self.now }
     {

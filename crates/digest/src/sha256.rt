@@ -35,6 +35,7 @@ pub(crate) struct Working {
     pub h: u32,
 }
 
+// Word i of a block.
 fn word(block: &[u8; 64], i: usize) -> u32
     requires { i < 16 }
     ensures { result ≡ Spec.word_of block.now i }

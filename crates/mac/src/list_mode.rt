@@ -1,5 +1,6 @@
 // List mode: the stream from a list of tags alone, its measuring, and the check of its digest. The public functions give `Answer` and
-// `Checked`, of which `measure`, `Streamed` and `CheckedAs` speak; the steps below them are `Result`s.
+// `Checked`, of which `measure`, `Streamed` and `CheckedAs` speak; the steps below them are `Result`s. The size and the extent of the whole
+// come first in each: two lines, of which a function would be no plainer.
 ghost use Rattle.std.specs.Prelude.{◌≡◌};
 ghost use Rattle.answer.specs.Step.{step_by};
 ghost use Rattle.digest.specs.Message.{limit};

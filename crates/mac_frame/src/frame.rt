@@ -9,7 +9,7 @@ use mac::list_mode;
 
 const INPUT_LIMIT: usize = 65536;
 
-// The big-endian length at an index.
+// The big-endian length at an index: one line by the library, as the word of a block is in digest, which has its own definition.
 #[tactic(auto, unfolding(crate::specs::Frame::big32))]
 fn big32(s: &[u8], i: usize) -> u32
     requires { i + 4 ≤ length s.now }

@@ -9,6 +9,7 @@ use lib.Dec.{ltb, eqb}
 use native.Mathlib.Omega.{arith}
 use lib.ListN.{length}
 use borrow.Author.Tests.{ltb-false, lt-ltb, le-ltb, eq-eqb, ne_eqb}
+use Rattle.std.specs.Prelude.{Option, Result, Err}
 use Rattle.answer.specs.declared.Answer.{Answer}
 use Rattle.dataset.specs.Header.{fault_at, ElementHeader, ItemHeader, outside, long_at, by_form, vr_on_at, value_by, item_by}
 use Rattle.dataset.specs.Bytes.{num16, num32, tag_at, vr_at}
@@ -81,7 +82,10 @@ refuses r a e = ap ElementHeader.refused e
 pub refuses-item : (r a : Answer) → r ≡ a → ItemHeader.refused r ≡ ItemHeader.refused a
 refuses-item r a e = ap ItemHeader.refused e
 
-pub ruleset refusals = (refuses, refuses-item)
+pub refuses-end : (r a : Answer) → r ≡ a → ◌≡◌ {A = Result (Option ℕ) Answer} (Err r) (Err a)
+refuses-end r a e = ap (λ (f : Answer). Err f) e
+
+pub ruleset refusals = (refuses, refuses-item, refuses-end)
 
 -- ---- what follows the checks of a header is another function's; z is its result
 pub short-form : (d : List ℕ) (tag left stop at v len : ℕ) (f : Form) (z : ElementHeader) → v ≡ vr_at d at → f ≡ form_of v → f ≡ Short → len ≡ num16 d (at + 6)

@@ -1,48 +1,45 @@
--- `header` meets its contract: at each `return` the tests that led there say which case of `element_at` holds. Assumes nothing.
-use Rattle.std.proofs.Common.{rules}
+-- `header` meets its contract: what ends here by Ends; behind it, at each `return` the tests that led there say which case of `element_at`
+-- holds. Assumes nothing.
+use Rattle.std.proofs.Common.{rules, arith, ap, ◌∙◌, Ok}
+use Rattle.std.proofs.lemmas.Result.{err_from_is_err_and}
 use Rattle.dataset.proofs.Laws.Header.Checks as checks
-use Rattle.dataset.specs.Header.{element_at}
+use Rattle.dataset.proofs.Laws.Header.Ends as ends
 use Rattle.dataset.proofs.header.header.Goals as goal
 
-pub returns-then-is_outside : goal.returns-then-is_outside
-unfolding element_at
-returns-then-is_outside c = search (checks.checks, checks.results, checks.handed, checks.refusals) depth 20 fits 20000
+pub returns-in_err-next : goal.returns-in_err-next
+returns-in_err-next c =
+    let p = err_from_is_err_and c.from_residual.result c.from_residual.ensures.1 in
+    rw (p.1, p.2) (ends.element-refused _ _ _ _ _ _ _ c.end_at.ensures _ c.in_err-next.was)
 
-pub returns-then-ends_at : goal.returns-then-ends_at
-unfolding element_at
-returns-then-ends_at c = search (checks.checks, checks.results, checks.handed, checks.refusals) depth 20 fits 20000
-
-pub overflow_sub-x : goal.overflow_sub-x
-overflow_sub-x c = search (checks.within, rules)
-
-pub returns-then-x-at-lt8 : goal.returns-then-x-at-lt8
-unfolding element_at
-returns-then-x-at-lt8 c = search (checks.checks, checks.results, checks.handed, checks.refusals) depth 20 fits 20000
-
-pub closed_by-requires : goal.closed_by-requires
-closed_by-requires c = search (checks.within, rules)
-
-pub returns-then-closed_by : goal.returns-then-closed_by
-unfolding element_at
-returns-then-closed_by c = search (checks.checks, checks.results, checks.handed, checks.refusals) depth 20 fits 20000
+pub returns-in-Some : goal.returns-in-Some
+returns-in-Some c = ends.element-ends _ _ _ _ _ _ _ c.end_at.ensures _ (c.in_ok-next.was ∙ ap (λ n. Ok n) c.in-Some.is)
 
 pub number16-requires : goal.number16-requires
-number16-requires c = search (checks.within, rules)
+number16-requires c =
+    let h = ends.header-lies _ _ _ _ _ _ c.end_at.ensures (c.in_ok-next.was ∙ ap (λ n. Ok n) c.in_default.is) in
+    omega (arith, h.inside, h.small)
 
 pub returns-then-number16-eq65534 : goal.returns-then-number16-eq65534
-unfolding element_at
-returns-then-number16-eq65534 c = search (checks.checks, checks.results, checks.handed, checks.refusals) depth 20 fits 20000
+returns-then-number16-eq65534 c =
+    ends.element-past _ _ _ _ _ _ _ c.end_at.ensures (c.in_ok-next.was ∙ ap (λ n. Ok n) c.in_default.is) _
+    (search (checks.checks, checks.results, checks.refusals) depth 20 fits 20000)
 
 pub tag_at-tag-requires : goal.tag_at-tag-requires
-tag_at-tag-requires c = search (checks.within, rules)
+tag_at-tag-requires c =
+    let h = ends.header-lies _ _ _ _ _ _ c.end_at.ensures (c.in_ok-next.was ∙ ap (λ n. Ok n) c.in_default.is) in
+    omega (arith, h.inside, h.small)
 
 pub returns-then-tag-least : goal.returns-then-tag-least
-unfolding element_at
-returns-then-tag-least c = search (checks.checks, checks.results, checks.handed, checks.refusals) depth 20 fits 20000
+returns-then-tag-least c =
+    ends.element-past _ _ _ _ _ _ _ c.end_at.ensures (c.in_ok-next.was ∙ ap (λ n. Ok n) c.in_default.is) _
+    (search (checks.checks, checks.results, checks.refusals) depth 20 fits 20000)
 
 pub vr_on-requires : goal.vr_on-requires
-vr_on-requires c = search (checks.header-inside, checks.inside-stop)
+vr_on-requires c =
+    let h = ends.header-lies _ _ _ _ _ _ c.end_at.ensures (c.in_ok-next.was ∙ ap (λ n. Ok n) c.in_default.is) in
+    (h.inside, h.small)
 
 pub returns : goal.returns
-unfolding element_at
-returns c = search (checks.checks, checks.results, checks.handed, checks.refusals) depth 20 fits 20000
+returns c =
+    ends.element-past _ _ _ _ _ _ _ c.end_at.ensures (c.in_ok-next.was ∙ ap (λ n. Ok n) c.in_default.is) _
+    (search (checks.checks, checks.results, checks.handed, checks.refusals) depth 20 fits 20000)
