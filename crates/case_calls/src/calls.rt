@@ -13,6 +13,7 @@ pub enum Mode<'a> {
     Signature { uid: &'a [u8], which: Option<u64> },
 }
 
+// Three matches over the modes: which of the two it is a line of a file says, so that types with a trait would need this enum besides.
 impl<'a> Mode<'a> {
     fn measure(self, d: &[u8]) -> Answer {
         match self {

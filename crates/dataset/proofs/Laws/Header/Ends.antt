@@ -1,6 +1,6 @@
 -- The checks of `end_at` are the first of `element_at` and of `item_at`, and where they find no end the header's 8 bytes lie in the extent.
 -- Assumes nothing.
-use Rattle.std.proofs.Common.{◌≡◌, refl, sym, ap, ◌∙◌, ℕ, ◌+◌, ◌-◌, ◌≤◌, Bool, true, false, List, length, if◌then◌else◌, arith}
+use Rattle.std.proofs.Common.{◌≡◌, refl, sym, ◌∙◌, ℕ, ◌+◌, ◌-◌, ◌≤◌, Bool, true, false, List, length, if◌then◌else◌}
 use Rattle.std.specs.Prelude.{Option, Some, None, Result, Ok, Err}
 use mathlib.Core.Bool.{not, true≢false}
 use lib.Dec.{eqb, ltb}
@@ -10,7 +10,7 @@ use Rattle.dataset.specs.Bytes.{num16, num32, tag_at}
 use Rattle.dataset.specs.Tags.{item_tag, item_delimitation_item, sequence_delimitation_item}
 use Rattle.dataset.specs.Header.{fault_at, ElementHeader, ItemHeader, outside, ends_at, closed_by, vr_on_at, element_at, item_by, item_at}
 use Rattle.dataset.specs.Inner.Header.{end_at}
-use Rattle.dataset.proofs.Laws.Header.Checks.{inside-at, inside-stop, header-inside}
+use Rattle.dataset.proofs.Laws.Header.Checks.{inside-stop, header-inside}
 
 module _ (d : List ℕ) (stop at : ℕ) where
   -- what stands at `at`, by the end and by the checks behind it
@@ -22,7 +22,7 @@ module _ (d : List ℕ) (stop at : ℕ) where
   by-end : {A : Type 0} (refused : Answer → A) (ends : ℕ → A) (rest : A) (delimiter : ℕ) (delimited : Bool)
       → by_end refused ends rest (end_at d delimiter delimited stop at)
       ≡ (if outside d stop at then refused (fault_at 2 at) else if ends_at delimited stop at then ends at else
-         if ltb (stop - at) 8 then refused (fault_at 2 at) else if closed_by d delimiter delimited at then ends (at + 8) else rest)
+      if ltb (stop - at) 8 then refused (fault_at 2 at) else if closed_by d delimiter delimited at then ends (at + 8) else rest)
   unfolding end_at
   by-end refused ends rest delimiter delimited = go (outside d stop at) (ends_at delimited stop at) (ltb (stop - at) 8) (closed_by d delimiter delimited at)
     where

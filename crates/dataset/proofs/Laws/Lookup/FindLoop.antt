@@ -25,7 +25,7 @@ use Rattle.dataset.specs.declared.reading.OneOutcome.TheVariants as one
 use Rattle.dataset.proofs.Laws.Reading.Unfolding.{elements-by}
 use Rattle.dataset.proofs.Laws.Reading.Outcomes.{IsElement, is-element, is-one-fault, is-one-end}
 use Rattle.dataset.proofs.Laws.Reading.Loops.{answered, one-past, data-set-is, size-refused}
-use Rattle.dataset.proofs.Laws.Reading.Guarantees.{holds_read, OneIs, ElementIn, one-read, data-set-read}
+use Rattle.dataset.proofs.Laws.Reading.Guarantees.{data-set-read}
 use Rattle.dataset.proofs.Laws.Reading.Order.{span-inside}
 
 -- ---- what was found before, or else what is found in what is left

@@ -1,6 +1,6 @@
 -- `header` meets its contract: what ends here by Ends; behind it, at each `return` the tests that led there say which case of `element_at`
 -- holds. Assumes nothing.
-use Rattle.std.proofs.Common.{rules, arith, ap, ◌∙◌, Ok}
+use Rattle.std.proofs.Common.{arith, ap, ◌∙◌, Ok}
 use Rattle.std.proofs.lemmas.Result.{err_from_is_err_and}
 use Rattle.dataset.proofs.Laws.Header.Checks as checks
 use Rattle.dataset.proofs.Laws.Header.Ends as ends

@@ -2,7 +2,7 @@
 use Rattle.std.proofs.Common.{arith, refl}
 use Rattle.std.proofs.lemmas.Result.{err_from_is_err_and}
 use Rattle.answer.specs.Answer.{◌or_else◌}
-use Rattle.answer.specs.Step.{step_by, test_by, ◌and_then◌}
+use Rattle.answer.specs.Step.{step_by, test_by}
 use Rattle.stream.specs.Walk.{measure, write_step, answer_from16}
 use Rattle.stream.proofs.Laws.Walk.Measuring as measured
 use Rattle.stream.proofs.Laws.Walk.WriteMeasured as steps
