@@ -2,7 +2,8 @@
 -- RFC 1321, 3.
 -- `Hashed` is the struct of src/message.rt. An array of the code is the list of its numbers.
 -- Assumes nothing.
-use Rattle.std.specs.Prelude.{ℕ, zero, suc, ◌-◌, ◌*◌, ◌/◌, ◌^◌, List, ◌++◌, length, take, drop, replicate, nat_le, if◌then◌else◌}
+use Rattle.std.specs.Prelude.{ℕ, zero, suc, ◌-◌, ◌*◌, ◌/◌, ◌^◌, List, ◌++◌, Result, Ok, Err, length, take, drop, replicate, nat_le, if◌then◌else◌}
+use Rattle.answer.specs.declared.Answer.{Answer}
 use Rattle.answer.specs.Answer.{accepted, refused}
 use Rattle.digest.specs.Padding.{ByteOrder, word_bytes, padding}
 use Rattle.digest.specs.declared.message.Hashed.{Hashed}
@@ -45,3 +46,8 @@ unfoldable pub hashing : Algorithm → List ℕ → Hashed
 hashing a m =
     if nat_le (length m) limit then record { answer = accepted 0; digest = digest_of a m } else
     record { answer = refused 25 0; digest = replicate a.size 0 }
+
+-- what is given back, by a step that has a digest or a refusal: the answer, and a digest of zeros where it is refused
+abbrev pub hashed_by : Algorithm → Result (List ℕ) Answer → Hashed
+hashed_by a (Ok digest) = record { answer = accepted 0; digest = digest }
+hashed_by a (Err refusal) = record { answer = refusal; digest = replicate a.size 0 }

@@ -2,7 +2,7 @@
 ghost use Rattle.std.specs.Prelude.{◌≡◌};
 ghost use Rattle.digest.specs.Sha256 as Sha256;
 ghost use Rattle.digest.specs.Message as Message;
-ghost use Rattle.digest.specs.Inner.Steps.{hashing_step, hashed_by};
+ghost use Rattle.digest.specs.Inner.Steps.{hashing_step};
 
 use crate::running::Running;
 use answer::Answer;
@@ -16,7 +16,7 @@ pub struct Hashed {
 
 // The answer and the digest of a step: a refusal has 32 zero bytes.
 impl From<Result<[u8; 32], Answer>> for Hashed {
-    ghost from_gives = { λ r h. h ≡ hashed_by Sha256.sha256 r };
+    ghost from_gives = { λ r h. h ≡ Message.hashed_by Sha256.sha256 r };
 
     fn from(step: Result<[u8; 32], Answer>) -> Self {
         match step {

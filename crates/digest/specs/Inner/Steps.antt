@@ -1,12 +1,11 @@
 -- For inner contracts; no part of what a reader has to believe. The calls as steps that may fail: the error is the answer of the refusal.
 -- Assumes nothing.
-use Rattle.std.specs.Prelude.{ℕ, List, Result, Ok, Err, length, replicate, nat_le, if◌then◌else◌}
+use Rattle.std.specs.Prelude.{ℕ, List, Result, Ok, Err, length, nat_le, if◌then◌else◌}
 use Rattle.answer.specs.declared.Answer.{Answer}
-use Rattle.answer.specs.Answer.{accepted, refused}
+use Rattle.answer.specs.Answer.{refused}
 use Rattle.digest.specs.Message.{Algorithm, digest_of, limit}
 use Rattle.digest.specs.Running.{accepts, fed, finished}
 use Rattle.digest.specs.declared.running.Running.{Running}
-use Rattle.digest.specs.declared.message.Hashed.{Hashed}
 
 -- `feeding` as a step
 unfoldable pub feeding_step : Algorithm → Running → List ℕ → Result Running Answer
@@ -19,8 +18,3 @@ finishing_step a s = if accepts s 0 then Ok (finished a s) else Err (refused 25 
 -- `hashing` as a step
 unfoldable pub hashing_step : Algorithm → List ℕ → Result (List ℕ) Answer
 hashing_step a m = if nat_le (length m) limit then Ok (digest_of a m) else Err (refused 25 0)
-
--- what a call gives back, by its step
-abbrev pub hashed_by : Algorithm → Result (List ℕ) Answer → Hashed
-hashed_by a (Ok digest) = record { answer = accepted 0; digest = digest }
-hashed_by a (Err e) = record { answer = e; digest = replicate a.size 0 }

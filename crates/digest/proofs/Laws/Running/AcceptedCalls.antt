@@ -2,9 +2,9 @@
 -- Assumes nothing.
 use Rattle.std.proofs.Common.{◌≡◌, ℕ, Bool, true, false, Result, Ok, Err, if◌then◌else◌, leb, List, length, replicate, refl}
 use Rattle.answer.specs.Answer.{accepted, refused}
-use Rattle.digest.specs.Message.{Algorithm, digest_of, limit, hashing}
+use Rattle.digest.specs.Message.{Algorithm, digest_of, limit, hashing, hashed_by}
 use Rattle.digest.specs.Running.{accepts, fed, finished, feeding, finishing}
-use Rattle.digest.specs.Inner.Steps.{feeding_step, finishing_step, hashing_step, hashed_by}
+use Rattle.digest.specs.Inner.Steps.{feeding_step, finishing_step, hashing_step}
 use Rattle.digest.specs.declared.running.Running.{Running}
 use Rattle.digest.specs.declared.running.Fed.{Fed}
 use Rattle.digest.specs.declared.running.Finished.{Finished}

@@ -1,6 +1,6 @@
 use Rattle.std.proofs.Common.{ap, ◌∙◌}
 use Rattle.digest.specs.Sha256.{sha256}
-use Rattle.digest.specs.Inner.Steps.{hashed_by}
+use Rattle.digest.specs.Message.{hashed_by}
 use Rattle.digest.proofs.Laws.Running.AcceptedCalls.{hashing-by}
 use Rattle.digest.proofs.message.sha256.Goals as goal
 

@@ -1,6 +1,6 @@
 use Rattle.std.proofs.Common.{ap, ◌∙◌}
 use Rattle.digest.specs.Sha256.{sha256}
-use Rattle.digest.specs.Inner.Steps.{hashed_by}
+use Rattle.digest.specs.Message.{hashed_by}
 use Rattle.digest.proofs.Laws.Running.AcceptedCalls.{finished_by, finishing-by}
 use Rattle.digest.proofs.running.Running.finish.Goals as goal
 
