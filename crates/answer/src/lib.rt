@@ -27,7 +27,8 @@ impl Answer {
         }
     }
 
-    // A refusal by its number, and the position that goes with it. 0 is no refusal: it gives what accepted(0) does.
+    // A refusal by its number, and the position that goes with it. 0 is no refusal: it gives what accepted(0) does. The code asks for one by
+    // `Refusal::at`; README has this function, and its clause is the one that `at` has for every number.
     pub fn refused(number: u8, position: usize) -> Self
         ensures { result ≡ Spec.refused number position }
     {

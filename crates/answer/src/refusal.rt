@@ -35,7 +35,7 @@ pub enum Refusal {
 }
 
 impl Refusal {
-    // The number of a refusal.
+    // The number of a refusal. (No `From`: README has it by this name.)
     pub fn number(self) -> u8
         ensures { result ≡ number_of self }
     {

@@ -68,8 +68,8 @@ pub fn print_stream<W: Write>(
     writeln!(writer)
 }
 
-// Checks an expected digest with a work buffer, and prints the answer, and what the check says. (Answer and Verdict are other crates', so that
-// their words cannot be a Display of this one.)
+// Checks an expected digest with a work buffer, and prints the answer, and what the check says. (A type of this crate round an
+// Answer or a Verdict, with a Display, would be longer than what prints them here.)
 pub fn print_check<W: Write>(
     writer: &mut W,
     mode: Mode,

@@ -2,7 +2,7 @@
 use std::io;
 use std::io::Write;
 
-// A space and the bytes in hex, or nothing where there are none.
+// A space and the bytes in hex, or nothing where there are none. (digest_vectors has the digest in hex; no library is below both.)
 pub(crate) fn hex<W: Write>(writer: &mut W, bytes: &[u8]) -> io::Result<()> {
     if !bytes.is_empty() {
         write!(writer, " ")?;

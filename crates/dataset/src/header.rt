@@ -1,4 +1,5 @@
-// What stands at an offset of a data set, in an element's place or in an item's: the checks of one header, in their order.
+// What stands at an offset of a data set, in an element's place or in an item's: the checks of one header, in their order. What is read of a
+// header goes from check to check as the parameters that the definitions have, which no struct of some of them is.
 ghost use Rattle.std.specs.Prelude.{◌≡◌, ◌+◌, ◌≤◌, length};
 ghost use Rattle.dataset.specs.Header.{element_case, item_case, outside, bad_length, too_deep, undefined_by, defined_by, value_by, long_at, vr_on_at, ends_at, closed_by, element_at, item_by, item_at};
 ghost use Rattle.dataset.specs.Place.{Lies};
@@ -10,7 +11,7 @@ use crate::{bytes, tags, vr};
 use answer::Answer;
 use answer::refusal::Refusal;
 
-// What stands in an element's place.
+// What stands in an element's place. Its end is no fault, and has an offset, so that it is a case here and not an Err or a None.
 #[derive(Clone, Copy, Debug, PartialEq, Eq)]
 pub enum ElementHeader {
     // the data set ends here; what follows it is at this offset
@@ -49,6 +50,7 @@ pub enum ItemHeader {
     },
 }
 
+// The length FFFFFFFF, as it is coded: the definitions test the number itself (it is odd, too).
 const UNDEFINED: usize = 0xFFFFFFFF;
 
 // A value, or a sequence of defined length.
@@ -169,7 +171,7 @@ fn end_at(d: &[u8], delimiter: u32, x: Extent) -> Result<Option<usize>, Answer>
     Ok(None)
 }
 
-// The checks at an element of the long form, from its second test of the bytes left on.
+// The checks at an element of the long form, from its second test of the bytes left on. (Data set and extent come apart as in `vr_on`.)
 fn long_form(d: &[u8], tag: u32, vr: u16, x: Extent) -> Result<ElementHeader, Answer>
     requires { Lies d.now x }
     ensures { element_case result ≡ long_at d.now tag vr x.left x.stop x.from }
@@ -204,7 +206,8 @@ fn vr_on(d: &[u8], tag: u32, x: Extent) -> Result<ElementHeader, Answer>
 }
 
 // What stands at x.from in an element's place, of a data set whose rest lies in x; or a refusal: the checks at one element, in their order.
-// `least` is the least tag that is above the one before. A stop past the data, or a start past stop, is 2.
+// `least` is the least tag that is above the one before, 0 where there is none: the number that `element_at` has. A stop past the data, or a
+// start past stop, is 2.
 pub fn header(d: &[u8], x: Extent, least: u64) -> Result<ElementHeader, Answer>
     ensures { element_case result ≡ element_at d.now x.delimited x.left x.stop x.from least }
 {

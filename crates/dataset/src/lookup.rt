@@ -1,4 +1,4 @@
-// The lookup of a tag at the top level of a data set.
+// The lookup of a tag at the top level of a data set. (The loop's offset and `least` by hand, as in `reading`.)
 ghost use Rattle.std.specs.Prelude.{◌≡◌, eqb};
 ghost use Rattle.dataset.specs.Lookup.{absent, present, found, Lookup};
 ghost use Rattle.dataset.specs.Inner.Outcomes.{or_next};
@@ -50,7 +50,8 @@ fn present_at(start: usize, end: usize) -> Found
     }
 }
 
-// What is found after one element more, of the tag `here`, whose value lies from start to end.
+// What is found after one element more, of the tag `here`, whose value lies from start to end. (seek has the same of a `Place`: three lines of
+// another type.)
 fn or_next(before: Found, wanted: u32, here: u32, start: usize, end: usize) -> Found
     ensures { result ≡ or_next before (eqb here wanted) (present start end) }
 {

@@ -1,7 +1,7 @@
 // The reading of a data set: the first fault from the left, or none. Each header is read once and each offset is passed once,
 // so that the cost is linear in the bytes: a reader goes on from where the reader below it stopped. So the loops here, and those that walk
 // over elements or items elsewhere, set their offset by hand: an iterator would hand out `Result`s and keep the offset past the end, which
-// is what a reader gives back.
+// is what a reader gives back. With it goes `least`, a number as `element_at` has it.
 ghost use Rattle.std.specs.Prelude.{◌≡◌, ◌<◌, ◌≤◌};
 ghost use Rattle.answer.specs.Step.{test_by};
 ghost use Rattle.dataset.specs.Reading.{explicit, fragments_at, one_at, handed_on, one_case, answer_of, size_answer, data_set};

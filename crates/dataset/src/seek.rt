@@ -1,4 +1,4 @@
-// What stands under two tags of a data set.
+// What stands under two tags of a data set. (The loop's offset and `least` by hand, as in `reading`.)
 ghost use Rattle.std.specs.Prelude.{◌≡◌};
 ghost use Rattle.dataset.specs.Extent.{elements_in};
 ghost use Rattle.dataset.specs.Place.{SoughtIn};
@@ -10,7 +10,7 @@ use crate::reading::OneOutcome;
 use crate::{extent, reading, vr};
 use answer::Answer;
 
-// What stands under a tag: whoever asks wants one of these four, so that an Option round three of them is no plainer.
+// What stands under a tag. The definitions say of each of the four what holds (`Placed`, `SoughtIn`), of Absent too, so that it is no Option.
 #[derive(Clone, Copy, Debug, PartialEq, Eq)]
 pub enum Place {
     Absent,

@@ -17,7 +17,7 @@ pub const UN: u16 = 0x554E;
 
 pub const US: u16 = 0x5553;
 
-// The form of a header, or no form: three cases of one question, asked at one place, so that an Option round two of them is no plainer.
+// The form of a header, or no form. The definitions `form_of` and `by_form` have these three cases, so that it is no Option of two.
 #[derive(Clone, Copy, Debug, PartialEq, Eq)]
 pub(crate) enum Form {
     // a two-byte length

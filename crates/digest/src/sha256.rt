@@ -79,7 +79,7 @@ fn schedule(block: &[u8; 64]) -> [u32; 64]
     w
 }
 
-// The working variables from the hash value.
+// The working variables from the hash value: 6.2.2, step 2, by its name in the definitions.
 fn initialized(hash: [u32; 8]) -> Working
     ensures { result ≡ Spec.initialized hash }
 {

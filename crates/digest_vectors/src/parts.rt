@@ -16,10 +16,7 @@ pub(crate) fn in_parts(message: &[u8], size: usize) -> Hashed
         let fed = state.feed(part);
         // `Fed` has the running digest beside the answer in a refusal too (RULES 10.4), so that there is no `?` here.
         if fed.answer.number != 0 {
-            return Hashed {
-                answer: fed.answer,
-                digest: [0u8; 32],
-            };
+            return Hashed::from(Err(fed.answer));
         }
         state = fed.running;
     }

@@ -5,7 +5,7 @@ use digest::message;
 use std::io;
 use std::io::Write;
 
-// The sizes of the parts that each message is fed in; 0 is whole, as its line prints it.
+// The sizes of the parts that each message is fed in; 0 is whole: the number that its line prints, which an Option would give back.
 const PARTS: [usize; 9] = [0, 1, 7, 55, 56, 63, 64, 65, 1000];
 
 // The lengths of the messages of one letter: about one block, and about two.

@@ -1,5 +1,5 @@
-// The values that C gets: answers, verdicts, yes or no; and the signature that it names. The types are other crates', so that none of these
-// can be a `From` of this one.
+// The values that C gets: answers, verdicts, yes or no; and the signature that it names. What they are as numbers is the C interface's, so that
+// it is said here, beside it, and not by a `From` where the types are.
 ghost use Rattle.std.specs.Prelude.{◌≡◌};
 ghost use Rattle.mac.specs.Result.{verdict_code};
 ghost use Rattle.eddyplume.specs.Boundary.{answer_words, which_of, flag};

@@ -36,7 +36,7 @@ pub extern "C" fn eddyplume_sha256(message: &[u8], digest: &mut [u8; 32], answer
     }
 }
 
-// The running digest of no bytes.
+// The running digest of no bytes. (It is stored as `eddyplume_digest_feed` stores it: a function would take the three arrays once more.)
 #[unsafe(no_mangle)]
 pub extern "C" fn eddyplume_digest_start(
     words: &mut [u32; 8],

@@ -39,7 +39,7 @@ pub fn signature_measure(uid: &[u8], which: Option<u64>, d: &[u8]) -> Answer
     Answer::from(measured(uid, which, d))
 }
 
-// Writes the stream of what is selected, with 9 by the length of the expected digest. Its length.
+// Writes the stream of what is selected, with 9 by the length of the expected digest. Its length. (The list by its offsets, as `Selected`.)
 fn write_selected(
     d: &[u8],
     s: Selected,

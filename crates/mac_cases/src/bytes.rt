@@ -2,24 +2,10 @@
 // the room that is left, gives None, and the case is then not understood, so that what was put by then is not looked at.
 use crate::fields;
 
-// The byte of a hex pair.
-fn byte_of(pair: &[u8]) -> Option<u8> {
-    let [high, low] = pair else {
-        return None;
-    };
-    let high = char::from(*high).to_digit(16)?;
-    let low = char::from(*low).to_digit(16)?;
-    u8::try_from(16 * high + low).ok()
-}
-
 // Puts hex pairs. The room that is left behind them.
 fn pairs<'a>(text: &[u8], room: &'a mut [u8]) -> Option<&'a mut [u8]> {
-    let mut left = room;
-    for pair in text.chunks(2) {
-        let (byte, rest) = left.split_first_mut()?;
-        *byte = byte_of(pair)?;
-        left = rest;
-    }
+    let (bytes, left) = room.split_at_mut_checked(text.len() / 2)?;
+    hex::decode_to_slice(text, bytes).ok()?;
     Some(left)
 }
 

@@ -16,7 +16,7 @@ pub(crate) fn first(line: &[u8]) -> (&[u8], &[u8]) {
     parted(line, b' ')
 }
 
-// The number of 64 bits that a field says in a base.
+// The number of 64 bits that a field says in a base. (The library's `from_str_radix` takes a str, and a sign before the digits.)
 pub(crate) fn number_in(field: &[u8], base: u32) -> Option<usize>
     requires { (2 ≤ base) × (base ≤ 36) }
 {

@@ -18,7 +18,7 @@ fn big32(s: &[u8], i: usize) -> u32
     u32::from_be_bytes([s[i], s[i + 1], s[i + 2], s[i + 3]])
 }
 
-// Where the list ends in the frame s.
+// Where the list ends in the frame s: a number, of which `FramesRead` and `OnlyFrames` speak.
 fn frame_of(s: &[u8]) -> Option<usize>
     ensures { result ≡ Spec.frame_of s.now }
 {

@@ -36,7 +36,8 @@ fn has_key(d: &[u8], key: ItemKey, index: u64, id: Place) -> bool
     }
 }
 
-// The first item with the key. A fault cannot occur: `select` has read the data set that they stand in.
+// The first item with the key. A fault cannot occur: `select` has read the data set that they stand in. (That x lies in the data is a premise
+// of the promise: the caller has a place, and not what `Inside` asks for.)
 fn find_item(d: &[u8], x: Extent, key: ItemKey) -> Option<FoundItem>
     ensures { Lies d.now x → FoundItemIn d.now key.entry 0 (items_in d.now x) result }
 {

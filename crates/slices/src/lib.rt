@@ -16,7 +16,7 @@ pub fn copy(bytes: &[u8], out: &mut [u8], to: usize)
     out[to..to + count].copy_from_slice(&bytes[..count]);
 }
 
-// Whether two lists of bytes are the same. (Callers say `same`, as their definitions say `same_bytes`.)
+// Whether two lists of bytes are the same: by name, since README has it, and the definitions of its callers say `same_bytes`.
 pub fn same(a: &[u8], b: &[u8]) -> bool
     ensures { result ≡ same_bytes a.now b.now }
 {

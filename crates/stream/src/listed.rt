@@ -1,4 +1,5 @@
-// The merge of a tag list with the elements of a data set: 13, 14, 15, and the stream of the listed elements.
+// The merge of a tag list with the elements of a data set: 13, 14, 15, and the stream of the listed elements. (Offset, `least` and index by
+// hand, as in `dataset::reading`: list and data set go on each at its own step.)
 ghost use Rattle.std.specs.Prelude.{◌≡◌, ◌*◌, ◌/◌, ◌≤◌, length, drop};
 ghost use Rattle.answer.specs.Answer as Spec;
 ghost use Rattle.stream.specs.TagList.{tags_in, ascending_answer};

@@ -1,4 +1,4 @@
-// The signature item's own elements, which follow the listed ones.
+// The signature item's own elements, which follow the listed ones. (Offsets and `least` by hand, as in `dataset::reading`.)
 ghost use Rattle.std.specs.Prelude.{◌≡◌, ◌||◌, ◌+◌, ◌≤◌, length};
 ghost use Rattle.stream.specs.TagList.{barred};
 ghost use Rattle.stream.specs.Own.{named};

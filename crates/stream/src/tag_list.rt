@@ -1,4 +1,4 @@
-// The tag list: its size, its order, and the barred tags.
+// The tag list: its size, its order, and the barred tags. It is the bytes that C passes; an index in it is the position of 11 to 15.
 ghost use Rattle.std.specs.Prelude.{◌≡◌, ◌+◌, ◌*◌, ◌<◌, ◌≤◌, length};
 ghost use Rattle.answer.specs.Step.{test_by};
 ghost use Rattle.dataset.specs.Bytes.{tag_at};

@@ -1,5 +1,6 @@
 // The walk over a data set that reads it, finds UN, measures the stream and writes it, all at once. What does not fit into the output is
 // not written: with an empty output the walk measures. The readers of `dataset` go the same way and know no stream, so that the walks are two.
+// (Offsets and `least` by hand, as in `dataset::reading`. What each function asks of `to` keeps its own sums within the numbers' range.)
 ghost use Rattle.std.specs.Prelude.{◌≡◌, false, ◌++◌, ◌+◌, ◌<◌, ◌≤◌, eqb, length};
 ghost use Rattle.std.proofs.lemmas.List.Edits.{sets};
 ghost use Rattle.slices.specs.Lists.{between};
@@ -26,7 +27,7 @@ pub(crate) struct Written {
     pub to: usize,
 }
 
-// What is read in an element's place.
+// What is read in an element's place. (The end is a case, as in `ElementHeader`; `Written` is of places that have no tag.)
 #[derive(Clone, Copy, Debug, PartialEq, Eq)]
 pub(crate) enum OneWritten {
     // the data set ends here; what follows it is at this offset
@@ -89,7 +90,7 @@ fn with_offset(one: OneWritten, to: usize) -> OneWritten
     }
 }
 
-// Writes an item tag and the bytes of a fragment.
+// Writes an item tag and the bytes of a fragment, by their offsets, as `output::copy`.
 fn write_fragment(d: &[u8], start: usize, end: usize, out: &mut [u8], to: usize)
     requires { (to + 4 ≤ start + length d.now) × (start ≤ end) × (end ≤ length d.now) }
     ensures { out.new ≡ sets out.old to (item_tag_bytes ++ between d.now start end) }

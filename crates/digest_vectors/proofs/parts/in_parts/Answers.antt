@@ -1,4 +1,4 @@
-use Rattle.std.proofs.Common.{rules}
+use Rattle.std.proofs.Common.{rules, ◌∙◌}
 use Rattle.digest_vectors.proofs.Laws.Parts.SoFar.{so-far-start, so-far-next, so-far-refused, so-far-all}
 use Rattle.digest_vectors.proofs.parts.in_parts.Goals as goal
 
@@ -7,7 +7,7 @@ loop-part-init c = so-far-start _ _ _ c.start-state.ensures (search rules)
 
 pub returns-then-fed-ne0 : goal.returns-then-fed-ne0
 returns-then-fed-ne0 c =
-    so-far-refused _ _ _ c.loop-part.invariant _ _ _ c.in-Some.ensures.steps.1.0 c.feed-fed.ensures c.if-fed-ne0.true
+    c.from.ensures ∙ so-far-refused _ _ _ c.loop-part.invariant _ _ _ c.in-Some.ensures.steps.1.0 c.feed-fed.ensures c.if-fed-ne0.true
 
 pub loop-part-preserved : goal.loop-part-preserved
 loop-part-preserved c =
