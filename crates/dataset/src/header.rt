@@ -1,7 +1,7 @@
 // What stands at an offset of a data set, in an element's place or in an item's: the checks of one header, in their order. What is read of a
 // header goes from check to check as the parameters that the definitions have, which no struct of some of them is.
 ghost use Rattle.std.specs.Prelude.{◌≡◌, ◌+◌, ◌≤◌, length};
-ghost use Rattle.dataset.specs.Header.{element_case, item_case, outside, bad_length, too_deep, undefined_by, defined_by, value_by, long_at, vr_on_at, ends_at, closed_by, element_at, item_by, item_at};
+ghost use Rattle.dataset.specs.Header.{element_case, item_case, fault_at, outside, bad_length, too_deep, undefined_by, defined_by, value_by, long_at, vr_on_at, ends_at, closed_by, element_at, item_by, item_at};
 ghost use Rattle.dataset.specs.Place.{Lies};
 ghost use Rattle.dataset.specs.Inner.Header.{end_at};
 
@@ -52,6 +52,14 @@ pub enum ItemHeader {
 
 // The length FFFFFFFF, as it is coded: the definitions test the number itself (it is odd, too).
 const UNDEFINED: usize = 0xFFFFFFFF;
+
+// The answer of a header's refusal, by its number and the offset of the header. README has it; the code asks for one by `Refusal::at`, whose
+// clause is the same for each number that there is.
+pub fn fault(number: u8, position: usize) -> Answer
+    ensures { result ≡ fault_at number position }
+{
+    Answer::refused(number, position)
+}
 
 // A value, or a sequence of defined length.
 fn defined_by(tag: u32, vr: u16, start: usize, end: usize) -> ElementHeader
