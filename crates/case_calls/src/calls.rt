@@ -69,7 +69,7 @@ pub fn print_stream<W: Write>(
 }
 
 // Checks an expected digest with a work buffer, and prints the answer, and what the check says. (A type of this crate round an
-// Answer or a Verdict, with a Display, would be longer than what prints them here.)
+// Answer or a Verdict, with a Display, would be no shorter than what prints them here.)
 pub fn print_check<W: Write>(
     writer: &mut W,
     mode: Mode,

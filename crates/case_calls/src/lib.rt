@@ -1,6 +1,6 @@
 #![tactic(auto)]
-// What the cases of mac_cases call, and what is printed of it. Every function prints and gives nothing back but the error of a write, so
-// that there is nothing to promise of it: what it prints is tested by the program.
+// What the cases of mac_cases call, and what is printed of it. Every public function prints and gives nothing back but the error of a write,
+// so that there is nothing to promise of it: what it prints is tested by the program.
 //
 // calls          list mode and signature mode
 // reading_kinds  the reading and the lookup

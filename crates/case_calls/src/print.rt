@@ -2,7 +2,8 @@
 use std::io;
 use std::io::Write;
 
-// A space and the bytes in hex, or nothing where there are none. (digest_vectors has the digest in hex; no library is below both.)
+// A space and the bytes in hex, or nothing where there are none. (Three lines here, and
+// for a digest in digest_vectors: a crate for both would be longer, and the kit's `encode_to_slice` needs a room.)
 pub(crate) fn hex<W: Write>(writer: &mut W, bytes: &[u8]) -> io::Result<()> {
     if !bytes.is_empty() {
         write!(writer, " ")?;

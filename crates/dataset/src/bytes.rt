@@ -1,5 +1,5 @@
-// Numbers, tags and VRs in a data set: a number's low byte first, a VR's first letter first. Each is one line by the library, which has the
-// widths apart, and asks for the bytes that it reads.
+// Numbers, tags and VRs in a data set: a number's low byte first, a VR's first letter first. Each is one line by the library, which has a
+// function for each width. Each asks that the bytes that it reads lie in the data.
 ghost use Rattle.std.specs.Prelude.{◌≡◌, ◌+◌, ◌<◌, ◌≤◌, length};
 ghost use Rattle.dataset.specs.Bytes.{num16, num32, tag_at, tag_in, vr_at};
 

@@ -11,7 +11,8 @@ use crate::{bytes, tags, vr};
 use answer::Answer;
 use answer::refusal::Refusal;
 
-// What stands in an element's place. Its end is no fault, and has an offset, so that it is a case here and not an Err or a None.
+// What stands in an element's place. Its end is no fault, and has an offset, so that it is a case here and not an Err or a None. Start, end and
+// delimiter are fields, as the definition's cases have them: an `Extent` has the levels left besides, which no header sets.
 #[derive(Clone, Copy, Debug, PartialEq, Eq)]
 pub enum ElementHeader {
     // the data set ends here; what follows it is at this offset
@@ -81,7 +82,7 @@ fn defined_by(tag: u32, vr: u16, start: usize, end: usize) -> ElementHeader
     }
 }
 
-// A sequence of undefined length, or fragments. Of the extent its end alone counts.
+// A sequence of undefined length, or fragments. As its definition, it takes the end alone of the extent.
 fn undefined_by(tag: u32, vr: u16, stop: usize, start: usize) -> ElementHeader
     ensures { element_case (Ok result) ≡ undefined_by tag vr stop start }
 {
@@ -179,7 +180,8 @@ fn end_at(d: &[u8], delimiter: u32, x: Extent) -> Result<Option<usize>, Answer>
     Ok(None)
 }
 
-// The checks at an element of the long form, from its second test of the bytes left on. (Data set and extent come apart as in `vr_on`.)
+// The checks at an element of the long form, from its second test of the bytes left on. (Data set and extent
+// are two parameters, as in `vr_on`.)
 fn long_form(d: &[u8], tag: u32, vr: u16, x: Extent) -> Result<ElementHeader, Answer>
     requires { Lies d.now x }
     ensures { element_case result ≡ long_at d.now tag vr x.left x.stop x.from }
@@ -195,8 +197,8 @@ fn long_form(d: &[u8], tag: u32, vr: u16, x: Extent) -> Result<ElementHeader, An
     value_by(tag, vr, x, at + 12, len as usize)
 }
 
-// The checks at an element from its VR on. Data set and extent come apart: an `Inside` is copied for each element, which makes the lookup
-// 6 % slower.
+// The checks at an element from its VR on. Data set and extent are two parameters: an `Inside` would be copied for each element, which makes
+// the lookup 6 % slower.
 fn vr_on(d: &[u8], tag: u32, x: Extent) -> Result<ElementHeader, Answer>
     requires { (x.from + 8 ≤ x.stop) × (x.stop ≤ length d.now) }
     ensures { element_case result ≡ vr_on_at d.now tag x.left x.stop x.from }
@@ -233,7 +235,7 @@ pub fn header(d: &[u8], x: Extent, least: u64) -> Result<ElementHeader, Answer>
     vr_on(d, tag, x)
 }
 
-// The item or fragment at x.from, by its length.
+// The item or fragment at x.from, by its length. `in_sequence` is a bool, as the definitions `item_by` and `item_at` have it.
 fn item_by(in_sequence: bool, x: Extent, start: usize, len: usize) -> Result<ItemHeader, Answer>
     requires { start ≤ x.stop }
     ensures { item_case result ≡ item_by in_sequence x.stop x.from start len }

@@ -50,8 +50,8 @@ fn present_at(start: usize, end: usize) -> Found
     }
 }
 
-// What is found after one element more, of the tag `here`, whose value lies from start to end. (seek has the same of a `Place`: three lines of
-// another type.)
+// What is found after one element more, of the tag `here`, whose value lies from start to end. (`seek::or_here` does
+// the same for a `Place`; one generic function would be no shorter.)
 fn or_next(before: Found, wanted: u32, here: u32, start: usize, end: usize) -> Found
     ensures { result ≡ or_next before (eqb here wanted) (present start end) }
 {

@@ -66,7 +66,7 @@ fn read_fragments(part: Inside) -> Result<usize, Answer>
     }
 }
 
-// An element that holds items or fragments, by the offset past them: its value ends before a closing delimiter of 8 bytes.
+// An element that holds items or fragments, by what its header has and the offset past them: its value ends before a closing delimiter of 8 bytes.
 fn holding(tag: u32, vr: u16, start: usize, delimited: bool, next: usize) -> OneOutcome
     requires { 8 ≤ next }
     ensures { result ≡ holding_of tag vr start delimited next }
@@ -181,7 +181,7 @@ fn read_whole(d: &[u8]) -> Result<usize, Answer>
     })
 }
 
-// Reads a data set: its first fault from the left, or number 0; an `Answer`, as README has it.
+// The answer of reading a data set: its first fault from the left, or number 0. It is an `Answer`, as README has it.
 pub fn read(d: &[u8]) -> Answer
     ensures { result ≡ answer_of (data_set d.now) }
 {

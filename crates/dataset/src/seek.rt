@@ -10,7 +10,7 @@ use crate::reading::OneOutcome;
 use crate::{extent, reading, vr};
 use answer::Answer;
 
-// What stands under a tag. The definitions say of each of the four what holds (`Placed`, `SoughtIn`), of Absent too, so that it is no Option.
+// What stands under a tag. The definitions `Placed` and `ElementPlaced` have a case for each of the four, for Absent too, so that it is no Option.
 #[derive(Clone, Copy, Debug, PartialEq, Eq)]
 pub enum Place {
     Absent,
@@ -30,6 +30,7 @@ pub struct Sought {
     pub next: usize,
 }
 
+// Whether anything stands there, by the definition's name.
 fn is_there(p: Place) -> bool
     ensures { result ≡ is_there p }
 {

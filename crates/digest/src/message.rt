@@ -7,7 +7,7 @@ ghost use Rattle.digest.specs.Inner.Steps.{hashing_step};
 use crate::running::Running;
 use answer::Answer;
 
-// The answer, and beside it the digest: RULES 10.5 and D5 give a refusal its 32 zero bytes, which a `Result` would not have.
+// The answer, and beside it the digest: RULES 10.5 and docs/DECISIONS.md, D5, give a refusal its 32 zero bytes, which a `Result` would not have.
 #[derive(Clone, Copy, Debug, PartialEq, Eq)]
 pub struct Hashed {
     pub answer: Answer,

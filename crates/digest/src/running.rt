@@ -15,7 +15,7 @@ use answer::refusal::Refusal;
 pub const LIMIT: u64 = 2305843009213693951;
 
 // Eight words, the bytes that wait for the rest of their block, their count, and the total of all bytes.
-// C passes array and count, and may pass an impossible count (RULES 10.3, D1), so that they stand side by side.
+// C passes array and count, and may pass an impossible count (RULES 10.3; docs/DECISIONS.md, D1), so that they stand side by side.
 #[derive(Clone, Copy, Debug, PartialEq, Eq)]
 pub struct Running {
     pub words: [u32; 8],
@@ -118,7 +118,7 @@ impl Running {
         }
     }
 
-    // Feeds `bytes`. Refused, with 25, it returns the running digest as received.
+    // Feeds `bytes`. Refused, with 25, it returns the running digest as received. (No `From` as `Hashed` has: the step does not carry that.)
     pub fn feed(self, bytes: &[u8]) -> Fed
         ensures { result ≡ Spec.feeding Sha256.sha256 self bytes.now }
     {

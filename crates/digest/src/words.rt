@@ -14,7 +14,8 @@ pub(crate) fn maj(x: u32, y: u32, z: u32) -> u32
     (x & y) ^ (x & z) ^ (y & z)
 }
 
-// 4.1.2 defines the four sigmas one by one, and so they stand; one over their numbers would be called by four such lines.
+// 4.1.2 defines the four sigmas one by one, and so they stand: one function over the amounts would still be called by four such lines, and the
+// last operation differs.
 pub(crate) fn big_sigma0(x: u32) -> u32
     ensures { result ≡ Spec.big_sigma0 x }
 {

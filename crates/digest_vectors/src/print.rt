@@ -13,7 +13,7 @@ impl fmt::Display for Numbers {
     }
 }
 
-// A digest in lower-case hex.
+// A digest in lower-case hex. (Three lines here, and for any bytes in case_calls.)
 #[derive(Clone, Copy)]
 pub(crate) struct Hex(pub [u8; 32]);
 

@@ -1,4 +1,4 @@
-// The digest of a whole message, and the running digest. A field that is an array has a name before it is stored: today's borrow checker
+// The digest of a whole message, and the running digest. A field that is an array has a name before it is stored: the kit's borrow checker
 // does not take one straight.
 ghost use Rattle.std.specs.Prelude.{◌≡◌};
 ghost use Rattle.digest.specs.Message.{hashing};

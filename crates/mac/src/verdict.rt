@@ -13,7 +13,7 @@ use digest::message::Hashed;
 use selection::select::Algorithm;
 
 // Whether the digest of the stream is the expected one; a check that is refused says neither of the two. C has a number for each of the
-// three, and `verdict_of` (specs/Result) says which.
+// three (`verdict_code` of specs/Result).
 #[derive(Clone, Copy, Debug, PartialEq, Eq)]
 pub enum Verdict {
     Neither = 0,

@@ -9,7 +9,7 @@ fn pairs<'a>(text: &[u8], room: &'a mut [u8]) -> Option<&'a mut [u8]> {
     Some(left)
 }
 
-// Puts hex pairs, one or more, `count` times. They have to be understood, and to fit once, also where the count is 0.
+// Puts hex pairs, one or more, `count` times (no length of them). They have to be understood, and to fit once, also where the count is 0.
 fn repeated<'a>(text: &[u8], count: usize, room: &'a mut [u8]) -> Option<&'a mut [u8]> {
     if text.is_empty() {
         return None;

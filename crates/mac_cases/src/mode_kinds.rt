@@ -70,6 +70,7 @@ fn list_of<'a>(args: &[u8], room: &'a mut [u8]) -> Option<(Mode<'a>, &'a [u8])> 
 }
 
 // WHICH: a number in decimal, or none. The outer None is a field that is not understood, the inner one says that none is named.
+// (Bytes, and a word of the case files: no `FromStr`.)
 fn which_of(field: &[u8]) -> Option<Option<u64>> {
     match field {
         b"none" => Some(None),

@@ -6,8 +6,8 @@ ghost use Rattle.mac_frame.specs.Inner.Puts.{Puts};
 use answer::Answer;
 use itoa::Buffer;
 
-// The buffer, and how much text there is so far. What does not fit is not written, but counted. How much there may be before a call is no one
-// bound: who calls others leaves room for their counts.
+// The buffer, which is lent (there is no heap), and how much text there is so far. `Puts` speaks of both: what does not fit is counted, too.
+// How much there may be before a call is no one bound: who calls others leaves room for their counts.
 #[derive(Drop)]
 pub(crate) struct Text<'a> {
     pub(crate) room: &'a mut [u8],

@@ -4,7 +4,7 @@ ghost use Rattle.std.specs.Prelude.{◌≡◌};
 ghost use Rattle.std.proofs.lemmas.List.Edits.{sets};
 ghost use Rattle.slices.specs.Lists.{same_bytes, all_are};
 
-// Copies bytes to the output, from `to` on. What does not fit is not written.
+// Copies bytes to the output, from `to` on. What does not fit is not written. (README has it with the offset, which may lie past the output.)
 pub fn copy(bytes: &[u8], out: &mut [u8], to: usize)
     ensures { out.new ≡ sets out.old to bytes.now }
 {

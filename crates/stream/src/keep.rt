@@ -6,8 +6,8 @@ ghost use Rattle.stream.specs.Inner.Keep.{keeps, keeps_header};
 use crate::tag_list;
 use dataset::header::ElementHeader;
 
-// All that are not barred (in an item), those of one tag, or none: three cases of one question, so that an Option round one of them is no
-// plainer.
+// All that are not barred (in an item), those of one tag, or none: the cases of the definition `keeps`, so that it is no Option round one of
+// them.
 #[derive(Clone, Copy, Debug, PartialEq, Eq)]
 pub(crate) enum Keep {
     Unbarred,

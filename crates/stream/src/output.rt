@@ -1,6 +1,6 @@
 // Bytes into the output, at an offset of the stream. What does not fit is not written; where a walk measures, the output is empty. So the offset
-// stands beside the output, here and in all that writes: a part of the output can't stand for both. Nor does a struct of the two: who walks over
-// an element that is not kept does so with an empty output and the offset 0, and goes on with its own.
+// stands beside the output, here and in all that writes: a part of the output can't stand for both. Nor would a struct of the two be plainer: who
+// walks over an element that is not kept does so with an empty output and the offset 0, and goes on with its own.
 ghost use Rattle.std.specs.Prelude.{◌≡◌, ◌≤◌, length};
 ghost use Rattle.std.proofs.lemmas.List.Edits.{sets};
 ghost use Rattle.slices.specs.Lists.{between};

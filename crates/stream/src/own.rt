@@ -24,7 +24,7 @@ fn is_named(tag: u32) -> bool
     )
 }
 
-// Whether an element is left out, by its tag, whether it is UN and whether it holds UN.
+// Whether an element is left out, by its tag, whether it is UN and whether it holds UN: facts that the walk has, and no choice of a step.
 fn is_left_out(tag: u32, is_un: bool, holds_un: bool) -> bool
     ensures { result ≡ (named tag || (barred tag || (is_un || holds_un))) }
 {
