@@ -168,14 +168,8 @@ fn write_element(
         }
         ElementHeader::Fragments { tag, start } => {
             output::copy(d, at, at + 8, out, to);
-            let fragments = write_fragments(
-                Inside {
-                    d,
-                    x: Extent { from: start, ..x },
-                },
-                out,
-                to + 8,
-            )?;
+            let inside = Extent { from: start, ..x };
+            let fragments = write_fragments(Inside { d, x: inside }, out, to + 8)?;
             Ok(nested_written(tag, fragments))
         }
     }
