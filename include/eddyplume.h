@@ -9,7 +9,7 @@
  * The caller's one duty: each pointer is valid for its length or array (and aligned for its type), and no two buffers overlap, except
  * that buffers which are only read may. A pointer with length 0 is not followed and may be null.
  *
- * Link with libeddyplume.a (it calls memcpy and memmove and nothing else).
+ * Link with libeddyplume.a (it calls memcpy and nothing else).
  */
 #ifndef EDDYPLUME_H
 #define EDDYPLUME_H

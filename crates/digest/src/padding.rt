@@ -15,8 +15,8 @@ pub(crate) fn padded(waiting: &[u8], bits: [u8; 8], n: usize) -> [u8; 128]
     ensures { take n result ≡ waiting.now ++ (0x80 ∷ (replicate (n - 9 - length waiting.now) 0 ++ bits)) }
 {
     let mut end = [0u8; 128];
-    end[..waiting.len()].copy_from_slice(waiting);
+    slices::copy(waiting, &mut end, 0);
     end[waiting.len()] = 0x80;
-    end[n - 8..n].copy_from_slice(&bits);
+    slices::copy(&bits, &mut end, n - 8);
     end
 }

@@ -47,9 +47,8 @@ fn filled(waiting: &[u8], bytes: &[u8]) -> [u8; 64]
     ensures { result ≡ Spec.zero_filled (waiting.now ++ bytes.now) }
 {
     let mut all = [0u8; 64];
-    let count = waiting.len();
-    all[..count].copy_from_slice(waiting);
-    all[count..count + bytes.len()].copy_from_slice(bytes);
+    slices::copy(waiting, &mut all, 0);
+    slices::copy(bytes, &mut all, waiting.len());
     all
 }
 

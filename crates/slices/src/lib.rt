@@ -4,7 +4,8 @@ ghost use Rattle.std.specs.Prelude.{◌≡◌};
 ghost use Rattle.std.proofs.lemmas.List.Edits.{sets};
 ghost use Rattle.slices.specs.Lists.{same_bytes, all_are};
 
-// Copies bytes to the output, from `to` on. What does not fit is not written. (README has it with the offset, which may lie past the output.)
+// Copies bytes to the output, from `to` on. What does not fit is not written. (README has it with the offset, which may lie past the output.
+// A loop, which the compiler makes `memcpy` of: of the library's `copy_from_slice` it makes `memmove`, which the C library would need besides.)
 pub fn copy(bytes: &[u8], out: &mut [u8], to: usize)
     ensures { out.new ≡ sets out.old to bytes.now }
 {
@@ -13,7 +14,9 @@ pub fn copy(bytes: &[u8], out: &mut [u8], to: usize)
         return;
     }
     let count = bytes.len().min(size - to);
-    out[to..to + count].copy_from_slice(&bytes[..count]);
+    for i in 0..count {
+        out[to + i] = bytes[i];
+    }
 }
 
 // Whether two lists of bytes are the same: by name, since README has it, and the definitions of its callers say `same_bytes`.

@@ -1,6 +1,6 @@
 -- `==` of two slices of bytes is `same_bytes`, and what it says of lists of different lengths. Assumes nothing.
 use Prim.Native.Nat.{ℕ, suc}
-use mathlib.Core.Path.{◌≡◌, refl, ap}
+use mathlib.Core.Path.{◌≡◌, refl, ap, ◌∙◌}
 use mathlib.Core.Bool.{Bool, true, false, ◌&&◌}
 use mathlib.Core.List.{List, [], ◌∷◌}
 use lib.Dec.{eqb}
@@ -14,6 +14,10 @@ pointwise-same_bytes [] [] = refl
 pointwise-same_bytes [] (b ∷ y) = refl
 pointwise-same_bytes (a ∷ x) [] = refl
 pointwise-same_bytes (a ∷ x) (b ∷ y) = ap (λ (t : Bool). eqb a b && t) (pointwise-same_bytes x y)
+
+-- the answer of `==`
+pub same-by : (x y : List ℕ) (r : Bool) → r ≡ pointwise eqb x y → r ≡ same_bytes x y
+same-by x y r e = e ∙ pointwise-same_bytes x y
 
 pub same-lengths : (a b : List ℕ) → (length a ≡ length b → ⊥) → false ≡ same_bytes a b
 unfolding same_bytes

@@ -1,14 +1,12 @@
--- What is written of a list, `sets`, and what `copy` writes: a byte past the end of the output is not written. Assumes nothing.
+-- What is written of a list, `sets`, and the loop of `copy`: a byte past the end of the output is not written. Assumes nothing.
 use Prim.Native.Nat.{ℕ, zero, suc, ◌+◌, ◌-◌, ◌≤◌, ◌<◌, min}
 use native.Mathlib.Nat.{add-zero}
+use native.Mathlib.Numerals.{add-one}
 use native.Mathlib.Omega.{arith}
 use mathlib.Core.Path.{◌≡◌, refl, sym, ap, ◌∙◌}
 use mathlib.Core.List.{List, [], ◌∷◌, ◌++◌}
-use lib.ListN.{length, take, drop, set, take-append-drop}
-use lib.Seq.{sets, length-sets, set_out, take_all, length-take-le}
-use borrow.Rule.Slice.PartMut.{put_mid}
-use Rattle.std.proofs.lemmas.List.Edits.{sets-eq}
-use Rattle.std.proofs.lemmas.Slice.{put_mid-paste}
+use lib.ListN.{length, take, drop, get_or, set, length-set, take-append-drop}
+use lib.Seq.{sets, length-sets, set_out, take-suc, take_all, length-take-le}
 
 pub sets-append : (l : List ℕ) (i : ℕ) (xs ys : List ℕ) → sets l i (xs ++ ys) ≡ sets (sets l i xs) (i + length xs) ys
 sets-append l i [] ys = ap (λ (k : ℕ). sets l k ys) (sym (add-zero i))
@@ -22,9 +20,17 @@ sets-past : (l : List ℕ) (i : ℕ) (xs : List ℕ) → length l ≤ i → sets
 sets-past l i [] h = refl
 sets-past l i (x ∷ xs) h = rw (set_out l i x h) (sets-past l (suc i) xs (omega arith))
 
--- ---- `copy`
+-- ---- the loop of `copy`: i bytes are written
+pub record CopyLoop (s out₀ : List ℕ) (to : ℕ) (out : List ℕ) (count i : ℕ) : Type 0 where
+  pub few : i ≤ count
+  pub same : out ≡ sets out₀ to (take i s)
+  pub long : length out ≡ length out₀
+
 pub copy-past : (s out : List ℕ) (to : ℕ) → length out ≤ to → out ≡ sets out to s
 copy-past s out to h = sym (sets-past out to s h)
+
+pub copy_start : (s out : List ℕ) (to count : ℕ) → CopyLoop s out to out count 0
+copy_start s out to count = record { few = omega arith; same = refl; long = refl }
 
 -- the first bytes, as many as fit: what is left does not fit
 pub sets-fitting : (s out : List ℕ) (to count : ℕ) → count ≡ min (length s) (length out - to) → sets out to (take count s) ≡ sets out to s
@@ -37,11 +43,18 @@ sets-fitting s out to count m = go (length s - count) refl
         sym (sets-past (sets out to (take count s)) (to + length (take count s)) (drop count s) (rw (length-sets out to (take count s), k) (omega arith)))
         ∙ sym (sets-append out to (take count s) (drop count s)) ∙ ap (λ (x : List ℕ). sets out to x) (take-append-drop count s)
 
-pub copied : (s out : List ℕ) (to count k : ℕ) (w : List ℕ) → count ≡ min (length s) (length out - to) → to < length out → w ≡ take count s → count ≡ k
-    → put_mid to k out w ≡ sets out to s
-copied s out to count k w m h e q =
-    let n = length-take-le count s (omega arith) in
-    put_mid-paste to k out w (take count s) count e q (sym n)
-    ∙ ap (λ (x : List ℕ). take to out ++ x ++ drop (to + count) out) (take_all count (take count s) (omega arith))
-    ∙ ap (λ (j : ℕ). take to out ++ take count s ++ drop (to + j) out) (sym n) ∙ sym (sets-eq (take count s) out to (omega arith))
-    ∙ sets-fitting s out to count m
+module _ (s out₀ : List ℕ) (to : ℕ) (out : List ℕ) (count i : ℕ) (c : CopyLoop s out₀ to out count i) (m : count ≡ min (length s) (length out₀ - to)) where
+  pub copy-again : i < count → CopyLoop s out₀ to (set out (to + i) (get_or s i 0)) count (i + 1)
+  copy-again l =
+      let k = c.same in
+      let n = length-take-le i s (omega arith) in
+      record {
+        few = omega arith;
+        same = rw (add-one, take-suc s i 0 (omega arith), sets-append out₀ to (take i s) (get_or s i 0 ∷ []), n, ← k);
+        long = length-set out (to + i) (get_or s i 0) ∙ c.long;
+      }
+
+  pub copy-end : count ≤ i → out ≡ sets out₀ to s
+  copy-end h =
+      let e : i ≡ count = omega (arith, c.few) in
+      c.same ∙ ap (λ (k : ℕ). sets out₀ to (take k s)) e ∙ sets-fitting s out₀ to count m

@@ -1,27 +1,30 @@
 -- The waiting bytes and the padding after them: the stores that make them, and the blocks that they fill.
 -- Assumes nothing.
-use Rattle.std.proofs.Common.{◌≡◌, ℕ, suc, ◌+◌, ◌-◌, ◌%◌, ◌<◌, ◌≤◌, Bool, true, false, ltb, List, ◌∷◌, ◌++◌, length, take, drop, set, replicate, refl, ap, ◌∙◌, ap₂, append_assoc, arith, length-append, ltb-false, ltb-true, if◌then◌else◌}
+use Rattle.std.proofs.Common.{◌≡◌, ℕ, suc, ◌+◌, ◌-◌, ◌%◌, ◌<◌, ◌≤◌, Bool, true, false, ltb, List, ◌∷◌, ◌++◌, length, take, drop, set, replicate, refl, ap, ◌∙◌, append_assoc, arith, length-append, length-take-le, ltb-false, ltb-true, if◌then◌else◌}
 use lib.ListN.{length-replicate}
-use lib.Seq.{take-append-add, set-append_seam}
-use borrow.Rule.Slice.PartMut.{put_mid}
-use Rattle.std.proofs.lemmas.Slice.{take-put_mid}
+use lib.Seq.{take-append-add, take-append_seam, set-append_seam}
+use Rattle.std.proofs.lemmas.List.Edits.{sets, sets-eq}
 use Rattle.digest.specs.Padding.{ByteOrder, bytes_of, zeros_after, padding}
 use Rattle.digest.specs.Theorems.{FewestZeros}
 use Rattle.slices.proofs.Laws.Tables.{length-tabulate}
 use Rattle.digest.proofs.Laws.Running.Zeros.{drop-replicate, take-replicate}
 
 -- w, then the byte x, then zeros, then the eight bytes of `bits`, n bytes in all: the stores that make it
-pub padded-stores : (w bits u v : List ℕ) (x n k : ℕ) → length bits ≡ 8 → length w + 9 ≤ n → n ≤ 128 → u ≡ w → v ≡ bits
-    → take n (put_mid (n - 8) k (set (u ++ drop (length w) (replicate 128 0)) (length w) x) v) ≡ w ++ (x ∷ (replicate (n - 9 - length w) 0 ++ bits))
-padded-stores w bits u v x n k e h l p q =
+pub padded-stores : (w bits u v : List ℕ) (x n : ℕ) → length bits ≡ 8 → length w + 9 ≤ n → n ≤ 128
+    → u ≡ sets (replicate 128 0) 0 w → v ≡ sets (set u (length w) x) (n - 8) bits → take n v ≡ w ++ (x ∷ (replicate (n - 9 - length w) 0 ++ bits))
+padded-stores w bits u v x n e h l p q =
     let c = length w in
     let R : List ℕ = replicate (127 - c) 0 in
-    let m : 128 - c ≡ suc (127 - c) = omega arith in
-    let d₁ : u ++ drop c (replicate 128 0) ≡ w ++ 0 ∷ R = ap₂ ◌++◌ p (drop-replicate c 128 0 ∙ ap (λ (k : ℕ). replicate k 0) m) in
-    let d₂ : set (u ++ drop c (replicate 128 0)) c x ≡ w ++ x ∷ R = ap (λ (d : List ℕ). set d c x) d₁ ∙ set-append_seam w 0 R x in
+    let m : 128 - (0 + c) ≡ suc (127 - c) = omega arith in
+    let d₁ : u ≡ w ++ 0 ∷ R =
+    p ∙ sets-eq w (replicate 128 0) 0 (omega arith) ∙ ap (λ (x : List ℕ). w ++ x) (drop-replicate (0 + c) 128 0 ∙ ap (λ (k : ℕ). replicate k 0) m) in
+    let d₂ : set u c x ≡ w ++ x ∷ R = ap (λ (d : List ℕ). set d c x) d₁ ∙ set-append_seam w 0 R x in
     let len : length (w ++ x ∷ R) ≡ 128 = simp (length-append, length-replicate) (omega arith) in
+    let t₁ : n ≡ length (take (n - 8) (w ++ x ∷ R) ++ bits) = omega (arith, length-append (take (n - 8) (w ++ x ∷ R)) bits, length-take-le (n - 8) (w ++ x ∷ R) (omega arith)) in
     let t₂ : n - 8 ≡ length w + suc (n - 9 - c) = omega arith in
-    ap₂ (λ (d y : List ℕ). take n (put_mid (n - 8) k d y)) d₂ q ∙ take-put_mid (n - 8) k (w ++ x ∷ R) bits n (omega arith) (omega arith)
+    ap (take n) (q ∙ ap (λ (d : List ℕ). sets d (n - 8) bits) d₂ ∙ sets-eq bits (w ++ x ∷ R) (n - 8) (omega arith))
+    ∙ ap (λ (k : ℕ). take k ((take (n - 8) (w ++ x ∷ R) ++ bits) ++ drop (n - 8 + length bits) (w ++ x ∷ R))) t₁
+    ∙ take-append_seam (take (n - 8) (w ++ x ∷ R) ++ bits) (drop (n - 8 + length bits) (w ++ x ∷ R))
     ∙ ap (λ (y : List ℕ). y ++ bits) (ap (λ (k : ℕ). take k (w ++ x ∷ R)) t₂ ∙ take-append-add w (x ∷ R) (suc (n - 9 - c))
     ∙ ap (λ (l : List ℕ). w ++ x ∷ l) (take-replicate (n - 9 - c) (127 - c) 0 (omega arith)))
     ∙ append_assoc w (x ∷ replicate (n - 9 - c) 0) bits

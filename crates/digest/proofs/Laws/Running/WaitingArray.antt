@@ -1,10 +1,10 @@
 -- The code's test is `accepts`, and what the code does with the array of waiting bytes is what `fed` says, for any algorithm.
 -- Assumes nothing.
-use Rattle.std.proofs.Common.{◌≡◌, ℕ, ◌+◌, ◌-◌, ◌*◌, ◌/◌, ◌<◌, ◌≤◌, Bool, true, false, ◌&&◌, List, [], ◌++◌, length, take, drop, replicate, sym, ap, ap₂, ◌∙◌, append_assoc, append-nil, arith, length-append, length-drop, take-append-drop, length-take-le, eqb-true, le-leb, leb-true}
+use Rattle.std.proofs.Common.{◌≡◌, ℕ, ◌+◌, ◌-◌, ◌*◌, ◌/◌, ◌<◌, ◌≤◌, Bool, true, false, ◌&&◌, List, [], ◌++◌, length, take, drop, replicate, refl, sym, ap, ◌∙◌, append_assoc, append-nil, arith, length-append, length-drop, take-append-drop, length-take-le, eqb-true, le-leb, leb-true}
 use mathlib.Core.Bool.{and-true, and-false, and-eq-true_iff}
 use borrow.Author.Tests.{lt-leb}
-use lib.Seq.{take-append_seam, drop-append_seam}
-use borrow.Rule.Slice.PartMut.{put_mid}
+use Rattle.std.proofs.lemmas.List.Edits.{sets, sets-eq}
+use Rattle.slices.proofs.Laws.Writing.{two_runs}
 use Rattle.digest.specs.Message.{Algorithm, after_blocks, rest, limit}
 use Rattle.digest.specs.Running.{waiting_bytes, possible, accepts, zero_filled, fed}
 use Rattle.digest.specs.Inner.Ready.{Ready}
@@ -31,16 +31,11 @@ unfolding accepts
 accepts-past s n h = sym (ap (λ (b : Bool). possible s && b) (lt-leb (s.total + n) limit h) ∙ and-false (possible s))
 
 -- the waiting bytes w with m behind them, in an array of zeros: the stores that make it
-pub filled-stores : (w m u v : List ℕ) (k : ℕ) → k ≡ length m → u ≡ w → v ≡ m
-    → put_mid (length w) k (u ++ drop (length w) (replicate 64 0)) v ≡ zero_filled (w ++ m)
-filled-stores w m u v k e p q =
-    let c = length w in
-    let R : List ℕ = drop c (replicate 64 0) in
-    let z : drop k R ≡ replicate (64 - length (w ++ m)) 0 =
-    ap (drop k) (drop-replicate c 64 0) ∙ drop-replicate k (64 - c) 0 ∙ ap (λ (j : ℕ). replicate j 0) (omega (arith, length-append w m)) in
-    ap₂ (λ (x y : List ℕ). put_mid c k (x ++ R) y) p q
-    ∙ ap₂ (λ (x y : List ℕ). x ++ (m ++ drop k y)) (take-append_seam w R) (drop-append_seam w R)
-    ∙ ap (λ (y : List ℕ). w ++ (m ++ y)) z ∙ sym (append_assoc w m (replicate (64 - length (w ++ m)) 0))
+pub filled-stores : (w m u v : List ℕ) → length w + length m ≤ 64 → u ≡ sets (replicate 64 0) 0 w → v ≡ sets u (length w) m → v ≡ zero_filled (w ++ m)
+filled-stores w m u v h p q =
+    let n = length-append w m in
+    two_runs (replicate 64 0) w m 0 (length w) u v refl p (q ∙ ap (λ (k : ℕ). sets u k m) (omega arith)) ∙ sets-eq (w ++ m) (replicate 64 0) 0 (omega arith)
+    ∙ ap (λ (x : List ℕ). (w ++ m) ++ x) (drop-replicate (0 + length (w ++ m)) 64 0 ∙ ap (λ (j : ℕ). replicate j 0) (omega arith))
 
 -- 64 bytes leave no room
 filled-whole : (b : List ℕ) → length b ≡ 64 → zero_filled b ≡ b

@@ -4,5 +4,4 @@ use Rattle.digest.proofs.padding.padded.Goals as goal
 
 pub returns : goal.returns
 returns c =
-    padded-stores c.args.waiting.now c.args.bits _ _ 0x80 c.args.n _ (search rules) c.requires.0 c.requires.1 c.copy_from_slice.ensures.after
-    c.copy_from_slice-2.ensures.after
+    padded-stores c.args.waiting.now c.args.bits _ _ 0x80 c.args.n (search rules) c.requires.0 c.requires.1 c.copy.ensures c.copy-2.ensures
