@@ -10,8 +10,9 @@ fn pairs<'a>(text: &[u8], room: &'a mut [u8]) -> Option<&'a mut [u8]> {
 }
 
 // Puts hex pairs, one or more, `count` times (no length of them). They have to be understood, and to fit once, also where the count is 0.
+// A count that the room can't hold is refused before any is put.
 fn repeated<'a>(text: &[u8], count: usize, room: &'a mut [u8]) -> Option<&'a mut [u8]> {
-    if text.is_empty() {
+    if text.is_empty() || room.len() < count {
         return None;
     }
     pairs(text, &mut *room)?;

@@ -5,12 +5,6 @@ use case_calls::{frame_kind, reading_kinds};
 use std::io;
 use std::io::Write;
 
-// A room for the bytes of a case's fields, a little over the size of a data set, and of a list and a digest with it. An array: what a case may
-// have is what fits, and a Vec would have this limit beside it.
-fn field_room() -> [u8; 1056960] {
-    [0u8; 1056960]
-}
-
 // A case that is understood: what is asked of the bytes of its DATA or INPUT, or a call of a mode.
 #[derive(Clone, Copy)]
 enum Case<'a> {
@@ -68,6 +62,28 @@ fn print_case<W: Write>(writer: &mut W, case: Case) -> io::Result<()> {
     }
 }
 
+// Runs a case of this kind, with a room for the bytes of its fields.
+fn run_in<W: Write>(
+    writer: &mut W,
+    kind: &[u8],
+    args: &[u8],
+    room: &mut [u8; 1056960],
+) -> io::Result<()> {
+    match case_of(kind, args, room) {
+        Some(case) => print_case(writer, case),
+        None => writeln!(writer, " ?"),
+    }
+}
+
+// Runs a case of this kind. The room for the bytes of its fields is a little over the size of a data set, and of a list and a digest with it. It is an
+// array: what a case may have is what fits, and a Vec would have this limit beside it. It is made here, and not inlined: elsewhere the
+// compiler clears it once more at the start of the function, for an empty line too.
+#[inline(never)]
+fn run_kind<W: Write>(writer: &mut W, kind: &[u8], args: &[u8]) -> io::Result<()> {
+    let mut room = [0u8; 1056960];
+    run_in(writer, kind, args, &mut room)
+}
+
 // Runs the case of one line.
 pub(crate) fn run_case<W: Write>(writer: &mut W, line: &[u8]) -> io::Result<()> {
     if line.is_empty() || line.starts_with(b"#") {
@@ -76,9 +92,5 @@ pub(crate) fn run_case<W: Write>(writer: &mut W, line: &[u8]) -> io::Result<()> 
     let (name, case) = fields::first(line);
     writer.write_all(name)?;
     let (kind, args) = fields::first(case);
-    let mut room = field_room();
-    match case_of(kind, args, &mut room) {
-        Some(case) => print_case(writer, case),
-        None => writeln!(writer, " ?"),
-    }
+    run_kind(writer, kind, args)
 }

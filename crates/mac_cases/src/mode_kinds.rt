@@ -13,12 +13,8 @@ use case_calls::calls::Mode;
 use std::io;
 use std::io::Write;
 
+// A little over the size of a data set.
 const MOST_ROOM: usize = 1048640;
-
-// A room for the output, a little over the size of a data set; an array, as that of the fields.
-fn output_room() -> [u8; MOST_ROOM] {
-    [0u8; MOST_ROOM]
-}
 
 // ROOM: how much of it is output room or work buffer.
 #[derive(Clone, Copy)]
@@ -137,18 +133,30 @@ pub(crate) fn call_of<'a>(kind: &[u8], args: &[u8], room: &'a mut [u8]) -> Optio
     }
 }
 
+// Makes a call that writes, in a room for the output, and prints what it gives back: a stream, or a check where a digest is expected.
+fn print_written<W: Write>(
+    writer: &mut W,
+    mode: Mode,
+    d: &[u8],
+    expected: Option<&[u8]>,
+    room: Room,
+    out: &mut [u8; MOST_ROOM],
+) -> io::Result<()> {
+    match expected {
+        None => calls::print_stream(writer, mode, d, &mut out[..room.size]),
+        Some(expected) => calls::print_check(writer, mode, d, expected, &mut out[..room.size]),
+    }
+}
+
 // Makes a call, and prints what it gives back.
 pub(crate) fn print_call<W: Write>(writer: &mut W, call: Call) -> io::Result<()> {
     let Call { mode, d, wanted } = call;
-    match wanted {
-        Wanted::Measure => calls::print_measure(writer, mode, d),
-        Wanted::Stream(room) => {
-            let mut out = output_room();
-            calls::print_stream(writer, mode, d, &mut out[..room.size])
-        }
-        Wanted::Check { room, expected } => {
-            let mut buffer = output_room();
-            calls::print_check(writer, mode, d, expected, &mut buffer[..room.size])
-        }
-    }
+    let (room, expected) = match wanted {
+        Wanted::Measure => return calls::print_measure(writer, mode, d),
+        Wanted::Stream(room) => (room, None),
+        Wanted::Check { room, expected } => (room, Some(expected)),
+    };
+    // one array for both: with one in each arm the stack would hold two
+    let mut out = [0u8; MOST_ROOM];
+    print_written(writer, mode, d, expected, room, &mut out)
 }
