@@ -6,6 +6,7 @@ ghost use Rattle.std.specs.Prelude.{◌≡◌, ◌<◌, ◌≤◌};
 ghost use Rattle.answer.specs.Step.{test_by};
 ghost use Rattle.dataset.specs.Reading.{explicit, fragments_at, one_at, handed_on, one_case, answer_of, size_answer, data_set};
 ghost use Rattle.dataset.specs.Reading as spec;
+ghost use Rattle.dataset.specs.Header.{element_case, element_at};
 ghost use Rattle.dataset.specs.Extent.{elements_in, items_in};
 ghost use Rattle.dataset.specs.Inner.Outcomes.{outcome_of, holding_of};
 
@@ -80,13 +81,21 @@ fn holding(tag: u32, vr: u16, start: usize, delimited: bool, next: usize) -> One
     }
 }
 
+// The header at x.from, as header::header reads it. The call is a function of its own, so that what it needs of the stack is free again while
+// the items of a sequence are read: `read_one` stands on the stack once for each level (64 bytes less a level).
+fn header_here(d: &[u8], x: Extent, least: u64) -> Result<ElementHeader, Answer>
+    ensures { element_case result ≡ element_at d.now x.delimited x.left x.stop x.from least }
+{
+    header::header(d, x, least)
+}
+
 // Reads what stands at x.from in an element's place: its header, and its items or fragments. Parameters as of header::header; a
 // stop past the data, or a start past stop, is 2 there.
 #[cycle(read_elements_read_items_read_one)]
 pub fn read_one(d: &[u8], x: Extent, least: u64) -> Result<OneOutcome, Answer>
     ensures { one_case result ≡ handed_on (one_at explicit d.now x.delimited x.left x.stop x.from least) }
 {
-    match header::header(d, x, least)? {
+    match header_here(d, x, least)? {
         ElementHeader::End(next) => Ok(OneOutcome::End(next)),
         ElementHeader::Value {
             tag,
