@@ -116,16 +116,19 @@ pub(crate) fn walk_list(list: &[u8], part: Inside, out: &mut [u8]) -> Result<usi
     let mut keep = next_listed(list, 0);
     loop {
         let to = found.so_far.unwrap_or(0);
-        let one = writer::write_one(&part, at, least, keep, out, to)?;
-        match one {
-            OneWritten::End(_) => return ended(list, found),
-            OneWritten::Element {
-                tag,
-                is_un,
-                holds_un,
-                next,
-                to: past,
-            } => {
+        // no `?`, so that the three outcomes stand side by side, each with its goal
+        match writer::write_one(&part, at, least, keep, out, to) {
+            Err(fault) => return Err(fault),
+            Ok(OneWritten::End(_)) => return ended(list, found),
+            Ok(
+                OneWritten::Element {
+                    tag,
+                    is_un,
+                    holds_un,
+                    next,
+                    to: past,
+                },
+            ) => {
                 let passed = Passed {
                     tag,
                     is_un,

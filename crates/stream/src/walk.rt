@@ -66,7 +66,10 @@ pub fn write(
     ensures { WrittenAs list.now d.now x item later out.old result out.new }
 {
     let length = measure(list, d, x, item)?;
-    later?;
+    // no `?`, as in `listed::walk_list`
+    if let Err(refusal) = later {
+        return Err(refusal);
+    }
     if out.len() < length {
         return Err(Refusal::OutputTooShort.at(0));
     }

@@ -19,11 +19,11 @@ use Rattle.dataset.proofs.Laws.Reading.Bounded.{explicit-bounded}
 use Rattle.dataset.proofs.Laws.Reading.Unfolding.{fragment-same, header-same}
 
 -- ---- what the code of `deeper` answers
-pub deeper-is : (left least r : ℕ) → least ≡ min left levels → r ≡ least - 1 → r ≡ deeper left
+pub deeper-is : (left r : ℕ) → r ≡ min left levels - 1 → r ≡ deeper left
 unfolding deeper
-deeper-is left least r e q = q ∙ go (ltb levels left) refl
+deeper-is left r q = q ∙ go (ltb levels left) refl
   where
-    go : (b : Bool) → ltb levels left ≡ b → least - 1 ≡ (if b then levels else left) - 1
+    go : (b : Bool) → ltb levels left ≡ b → min left levels - 1 ≡ (if b then levels else left) - 1
     go true t = let k = ltb-true levels left t in omega arith
     go false t = let k = ltb-false levels left t in omega arith
 

@@ -1,16 +1,15 @@
-use Rattle.std.proofs.lemmas.Result.{err_from_is_err_and}
+use Rattle.answer.proofs.Laws.Steps.{value-is}
 use Rattle.stream.proofs.Laws.Listed.WalkListLoop as steps
 use Rattle.stream.proofs.listed.walk_list.Goals as goal
 
-pub returns-in_err-one : goal.returns-in_err-one
-returns-in_err-one c =
-    let p = err_from_is_err_and c.from_residual.result c.from_residual.ensures.1 in rw (p.1, p.2) (search (steps.list-refused, c.in_err-one.was))
+pub returns-in-Err : goal.returns-in-Err
+returns-in-Err c = search steps.list-refused
 
-pub returns-in-End : goal.returns-in-End
-returns-in-End c = search (steps.list-end, c.in_ok-one.was)
+pub returns-in-Ok-End : goal.returns-in-Ok-End
+returns-in-Ok-End c = let q = value-is _ _ _ c.in-Ok-End.is c.in-Ok-End.field-0-is in search steps.list-end
 
-pub loop-one-smaller : goal.loop-one-smaller
-loop-one-smaller c = search (steps.list-less, c.in_ok-one.was)
+pub loop-fault-smaller : goal.loop-fault-smaller
+loop-fault-smaller c = let q = value-is _ _ _ c.in-Ok-Element.is c.in-Ok-Element.field-0-is in search steps.list-less
 
-pub loop-one-preserved : goal.loop-one-preserved
-loop-one-preserved c = search (steps.list-again, c.in_ok-one.was)
+pub loop-fault-preserved : goal.loop-fault-preserved
+loop-fault-preserved c = let q = value-is _ _ _ c.in-Ok-Element.is c.in-Ok-Element.field-0-is in search steps.list-again

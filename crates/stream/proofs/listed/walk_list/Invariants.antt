@@ -3,8 +3,8 @@ use Rattle.std.proofs.Common.{◌-◌}
 use Rattle.stream.proofs.Laws.Listed.WalkListLoop as steps
 use Rattle.stream.proofs.listed.walk_list.Given as goal
 
-abbrev pub invariant-loop-one : goal.invariant-loop-one
-invariant-loop-one l = steps.ListLoop l.list l.part.d.now l.part.x l.initial.out l.out l.at l.least l.found l.keep
+abbrev pub invariant-loop-fault : goal.invariant-loop-fault
+invariant-loop-fault l = steps.ListLoop l.list l.part.d.now l.part.x l.initial.out l.out l.at l.least l.found l.keep
 
-abbrev pub decreases-loop-one : goal.decreases-loop-one
-decreases-loop-one l = l.part.x.stop - l.at
+abbrev pub decreases-loop-fault : goal.decreases-loop-fault
+decreases-loop-fault l = l.part.x.stop - l.at

@@ -14,11 +14,9 @@ returns-in_err-length c =
     let p = err_from_is_err_and c.from_residual.result c.from_residual.ensures.1 in
     rw (p.1, p.2) record { answers = grind arith; output = refl; short = tt }
 
-pub returns-in_err-later : goal.returns-in_err-later
+pub returns-in-Err : goal.returns-in-Err
 unfolding measure write_step ◌or_else◌ step_by test_by
-returns-in_err-later c =
-    let p = err_from_is_err_and c.from_residual-in_err-later.result c.from_residual-in_err-later.ensures.1 in
-    rw (p.1, p.2) record { answers = grind arith; output = refl; short = tt }
+returns-in-Err c = record { answers = grind arith; output = refl; short = tt }
 
 pub returns-then-out-length : goal.returns-then-out-length
 unfolding measure write_step answer_from16 ◌or_else◌ step_by test_by
@@ -31,4 +29,4 @@ pub write_stream-requires : goal.write_stream-requires
 write_stream-requires c = search (measured.measured-ascends, c.in_ok-length.was)
 
 pub returns : goal.returns
-returns c = search (steps.write-written, c.in_ok-length.was, c.in_ok-later.was)
+returns c = search (steps.write-written, c.in_ok-length.was)
