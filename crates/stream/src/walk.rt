@@ -66,7 +66,7 @@ pub fn write(
     ensures { WrittenAs list.now d.now x item later out.old result out.new }
 {
     let length = measure(list, d, x, item)?;
-    // no `?`, as in `listed::walk_list`
+    // no `?`, so that the caller's refusal has a goal of its own
     if let Err(refusal) = later {
         return Err(refusal);
     }

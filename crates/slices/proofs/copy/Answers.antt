@@ -12,4 +12,4 @@ pub loop-i-preserved : goal.loop-i-preserved
 loop-i-preserved c = search (writing.copy-again, rules)
 
 pub returns : goal.returns
-returns c = search (writing.copy-end, rules)
+returns c = search (writing.copy-end-min, rules)
