@@ -6,7 +6,7 @@ use native.Mathlib.Omega.{arith}
 use mathlib.Core.Path.{◌≡◌, refl, sym, ap, ◌∙◌}
 use mathlib.Core.List.{List, [], ◌∷◌, ◌++◌}
 use lib.ListN.{length, take, drop, get_or, set, length-set, take-append-drop}
-use lib.Seq.{sets, length-sets, set_out, take-suc, take-length, length-take-le}
+use lib.Seq.{sets, length-sets, set_out, take-suc, take_all, length-take-le}
 
 pub sets-append : (l : List ℕ) (i : ℕ) (xs ys : List ℕ) → sets l i (xs ++ ys) ≡ sets (sets l i xs) (i + length xs) ys
 sets-append l i [] ys = ap (λ (k : ℕ). sets l k ys) (sym (add-zero i))
@@ -32,9 +32,21 @@ copy-past s out to h = sym (sets-past out to s h)
 pub copy_start : (s out : List ℕ) (to count : ℕ) → CopyLoop s out to out count 0
 copy_start s out to count = record { few = omega arith; same = refl; long = refl }
 
-module _ (s out₀ : List ℕ) (to : ℕ) (out : List ℕ) (count i : ℕ) (c : CopyLoop s out₀ to out count i) (m : count ≤ length s) where
-  pub copy-again : i < count → CopyLoop s out₀ to (set out (to + i) (get_or s i 0)) count (i + 1)
-  copy-again l =
+-- the first bytes, all or as many as fit: what is left does not fit
+pub sets-fitting : (s out : List ℕ) (to count : ℕ) → (count < length s → length out - to ≤ count) → sets out to (take count s) ≡ sets out to s
+sets-fitting s out to count f = go (length s - count) refl
+  where
+    go : (n : ℕ) → n ≡ length s - count → sets out to (take count s) ≡ sets out to s
+    go zero q = ap (λ (x : List ℕ). sets out to x) (take_all count s (omega arith))
+    go (suc n) q =
+        let r = f (omega arith) in
+        let k = length-take-le count s (omega arith) in
+        sym (sets-past (sets out to (take count s)) (to + length (take count s)) (drop count s) (rw (length-sets out to (take count s), k) (omega arith)))
+        ∙ sym (sets-append out to (take count s) (drop count s)) ∙ ap (λ (x : List ℕ). sets out to x) (take-append-drop count s)
+
+module _ (s out₀ : List ℕ) (to : ℕ) (out : List ℕ) (count i : ℕ) (c : CopyLoop s out₀ to out count i) where
+  pub copy-again : count ≤ length s → i < count → CopyLoop s out₀ to (set out (to + i) (get_or s i 0)) count (i + 1)
+  copy-again m l =
       let k = c.same in
       let n = length-take-le i s (omega arith) in
       record {
@@ -43,19 +55,11 @@ module _ (s out₀ : List ℕ) (to : ℕ) (out : List ℕ) (count i : ℕ) (c : 
         long = length-set out (to + i) (get_or s i 0) ∙ c.long;
       }
 
-  -- what is left does not fit
-  pub copy-end : (count < length s → count ≡ length out₀ - to) → count ≤ i → out ≡ sets out₀ to s
-  copy-end f l = c.same ∙ go (length s - i) refl
-    where
-      go : (n : ℕ) → n ≡ length s - i → sets out₀ to (take i s) ≡ sets out₀ to s
-      go zero q = let e : i ≡ length s = omega (arith, c.few) in rw (e, take-length s)
-      go (suc n) q =
-          let r = f (omega (arith, c.few)) in
-          let k = length-take-le i s (omega (arith, c.few)) in
-          sym (sets-past (sets out₀ to (take i s)) (to + length (take i s)) (drop i s) (rw (length-sets out₀ to (take i s), k) (omega (arith, c.few))))
-          ∙ sym (sets-append out₀ to (take i s) (drop i s)) ∙ ap (λ (x : List ℕ). sets out₀ to x) (take-append-drop i s)
+  pub copy-end : (count < length s → length out₀ - to ≤ count) → count ≤ i → out ≡ sets out₀ to s
+  copy-end f l =
+      let e : i ≡ count = omega (arith, c.few) in
+      c.same ∙ ap (λ (k : ℕ). sets out₀ to (take k s)) e ∙ sets-fitting s out₀ to count f
 
--- `copy-end` where the count is the lesser of the two
-pub copy-end-min : (s out₀ : List ℕ) (to : ℕ) (out : List ℕ) (count i : ℕ) → CopyLoop s out₀ to out count i → count ≡ min (length s) (length out₀ - to)
-    → count ≤ i → out ≡ sets out₀ to s
-copy-end-min s out₀ to out count i c m h = copy-end s out₀ to out count i c (omega arith) (λ l. omega arith) h
+  -- with the count that the code has
+  pub copy-end-min : count ≡ min (length s) (length out₀ - to) → count ≤ i → out ≡ sets out₀ to s
+  copy-end-min m = copy-end (λ h. omega arith)
