@@ -4,8 +4,8 @@ ghost use Rattle.std.specs.Prelude.{◌≡◌};
 ghost use Rattle.std.proofs.lemmas.List.Edits.{sets};
 ghost use Rattle.slices.specs.Lists.{same_bytes, all_are};
 
-// Copies bytes to the output, from `to` on. What does not fit is not written. (README has it with the offset, which may lie past the output.
-// A loop, since of the library's `copy_from_slice` the compiler makes `memmove`, which the C library would need besides `memcpy`.)
+// Copies bytes to the output, from `to` on. What does not fit is not written. (By name, since README has it; the offset may lie past the
+// output. A loop, since of the library's `copy_from_slice` the compiler makes `memmove`, which the archive for C would need besides `memcpy`.)
 pub fn copy(bytes: &[u8], out: &mut [u8], to: usize)
     ensures { out.new ≡ sets out.old to bytes.now }
 {
@@ -20,7 +20,7 @@ pub fn copy(bytes: &[u8], out: &mut [u8], to: usize)
 }
 
 // Whether two lists of bytes are the same: by name, since README has it, and the definitions of its callers say `same_bytes`. (A loop, not
-// `==`, so that each byte that is compared has a goal of its own, at which a wrong one is refused for its value.)
+// `==`, so that the two bytes that are compared stand in a goal, where a wrong one is refused for its value.)
 pub fn same(a: &[u8], b: &[u8]) -> bool
     ensures { result ≡ same_bytes a.now b.now }
 {
